@@ -1,23 +1,29 @@
 # Takes a program from the release. ./check and ./lsp read this in a clone in which no build was
-# asked for; they name the program's crate (target). What is unpacked is in release/out, in a folder
-# named by the archive's checksum. Beside the archive's own folder it has what is noted when the
-# sources are compared with those of the release: which paths are to be looked at from then on, a
-# time from before that, and whether it was said that the sources differ.
+# asked for; they name the program's crate (target). The programs are unpacked into release/out, in a
+# folder named by the archive's checksum. Beside them it has what is noted when the sources are
+# compared with those of the release: which paths are to be looked at from then on, a time from
+# before that, and whether it was said that the sources differ.
 
 build_it="./$self --build proves and builds it, where the toolchain is"
 
 # Finds the program, and unpacks the release where that was not done yet.
 take_release() {
-    local sum archive inner
+    local programs
+    find_release
+    programs=$folder/lib/snl-check
+    place=$root/release/out/${sum:0:12}
+    [ -x "$place/$programs/$target" ] || unpack
+    program=$place/$programs/$target
+    is_told || compare_sources
+}
+
+# Finds the archive, its checksum and the folder that is packed in it.
+find_release() {
     [[ $root = /* ]] || root=$PWD/$root
     { read -r sum archive < "$root/release/SHA256SUMS"; } 2> /dev/null \
         || fail "release/SHA256SUMS is not there; $build_it"
+    folder=${archive%.tar.xz}
     is_for_this_machine
-    place=$root/release/out/${sum:0:12}
-    inner=${archive%.tar.xz}/lib/snl-check/$target
-    [ -x "$place/$inner" ] || unpack
-    program=$place/$inner
-    is_told || compare_sources
 }
 
 # The variables are bash's own; where it was started by a tcsh, they can be that one's.
@@ -28,22 +34,35 @@ is_for_this_machine() {
         || fail "the release is for Linux on x86-64, and this machine is another (${OSTYPE%-*} on $machine): run it on one of that kind"
 }
 
-# Unpacks the archive apart, and puts that in its place at once: two calls may do so side by side.
-# Where the clone cannot be written, it is unpacked into a temporary folder, which goes at the end.
+# Unpacks the programs apart, and puts them in their place at once: two calls may do so side by side.
+# Where the clone cannot be written, that is a temporary folder, which goes at the end.
 unpack() {
-    local why open is_kept=1
+    local is_kept=1
+    trap 'rm -rf "${room:-}" "${apart:-}"' EXIT
+    apart=$place.$$
+    mkdir -p "$apart" 2> /dev/null || { apart=$(mktemp -d) && is_kept=; } || exit 2
+    unpack_into "$apart" "$programs/snl_cli" "$programs/snl_lsp"
+    trial | "$apart/$programs/$target" > /dev/null 2>&1 \
+        || fail "the program of the release does not run here"
+    [ -z "$is_kept" ] && place=$apart || put_in_place
+}
+
+# Unpacks the archive, or the named parts of it, into the folder $1.
+unpack_into() {
+    local why open
     [ -r "$root/release/$archive" ] \
         || fail "release/$archive is not there: git checkout release brings it back; $build_it"
     [ "$(sha256sum < "$root/release/$archive")" = "$sum  -" ] \
         || fail "release/$archive is damaged: git checkout release mends that; $build_it"
     choose_opener
-    trap 'rm -rf "${room:-}" "${apart:-}"' EXIT
-    apart=$place.$$
-    mkdir -p "$apart" 2> /dev/null || { apart=$(mktemp -d) && is_kept=; } || exit 2
-    why=$({ "${open[@]}" "$root/release/$archive" | tar -xf - -C "$apart"; } 2>&1) \
+    why=$({ "${open[@]}" "$root/release/$archive" | tar -xf - -C "$@"; } 2>&1) \
         || fail "release/$archive cannot be unpacked: ${why%%$'\n'*}"
-    trial | "$apart/$inner" > /dev/null 2>&1 || fail "the program of the release does not run here"
-    [ -z "$is_kept" ] && place=$apart || put_in_place
+}
+
+# The version in the name of the packed folder.
+version_of() {
+    local rest=${1#snl-}
+    echo "${rest%%-*}"
 }
 
 # Finds a program that reads the archive.
@@ -62,7 +81,7 @@ choose_opener() {
 # earlier releases goes.
 put_in_place() {
     local old
-    [ -x "$place/$inner" ] || [ ! -e "$place" ] || rm -rf "$place"
+    [ -x "$place/$programs/$target" ] || [ ! -e "$place" ] || rm -rf "$place"
     [ -e "$place" ] || mv "$apart" "$place" 2> /dev/null
     rm -rf "$apart" "$place/${apart##*/}"
     apart=
@@ -101,9 +120,8 @@ compare_sources() {
         note_compared
     else
         rm -f "$place/time.$$"
-        archive=${archive#snl-}
         mkdir "$place/said" 2> /dev/null \
-            && say "release ${archive%%-*} is of earlier sources; ./$self --build proves and builds these"
+            && say "release $(version_of "$folder") is of earlier sources; ./$self --build proves and builds these"
     fi
     return 0
 }
