@@ -126,7 +126,7 @@ compare_sources() {
     return 0
 }
 
-# Of proofs there are twice as many files as of all else, and no program is another by them: they
+# Of proofs there are nearly twice as many files as of all else, and no program is another by them: they
 # are compared again where git has brought something.
 note_compared() {
     local paths=(crates.txt release/sources)
