@@ -1,7 +1,7 @@
 #!/usr/bin/env bash
 # The language server of SNL, for editors: it speaks on standard input and output.
-# ./lsp starts it at once: the one that was installed, or in a clone the one that is built there, and
-# else that of the release. Editors give a server seconds to answer, so it never builds unasked:
+# ./lsp starts it at once: the one that was installed, or in a clone the one that is built there,
+# and else that of the release. Editors give a server seconds to answer, so it never builds unasked:
 # ./lsp --build proves and builds the server of a clone.
 set -u
 

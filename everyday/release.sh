@@ -1,6 +1,6 @@
 # Takes a program from the release. ./check and ./lsp read this in a clone in which no build was
-# asked for; they name the program's crate (target). The programs are unpacked into release/out, in a
-# folder named by the archive's checksum. Beside them it has what is noted when the sources are
+# asked for; they name the program's crate (target). The programs are unpacked into release/out, in
+# a folder named by the archive's checksum. Beside them it has what is noted when the sources are
 # compared with those of the release: which paths are to be looked at from then on, a time from
 # before that, and whether it was said that the sources differ.
 
@@ -31,11 +31,12 @@ is_for_this_machine() {
     local machine=$HOSTTYPE
     [ "$machine" = x86_64 ] || machine=$(uname -m)
     [ "$machine" = x86_64 ] && [[ $OSTYPE = linux* ]] \
-        || fail "the release is for Linux on x86-64, and this machine is another (${OSTYPE%-*} on $machine): run it on one of that kind"
+        || fail "the release is for Linux on x86-64, and this machine is another" \
+            "(${OSTYPE%-*} on $machine): run it on one of that kind"
 }
 
-# Unpacks the programs apart, and puts them in their place at once: two calls may do so side by side.
-# Where the clone cannot be written, that is a temporary folder, which goes at the end.
+# Unpacks the programs apart, and puts them in their place at once: two calls may do so side by
+# side. Where the clone cannot be written, that is a temporary folder, which goes at the end.
 unpack() {
     local is_kept=1
     trap 'rm -rf "${room:-}" "${apart:-}"' EXIT
@@ -121,13 +122,14 @@ compare_sources() {
     else
         rm -f "$place/time.$$"
         mkdir "$place/said" 2> /dev/null \
-            && say "release $(version_of "$folder") is of earlier sources; ./$self --build proves and builds these"
+            && say "release $(version_of "$folder") is of earlier sources;" \
+                "./$self --build proves and builds these"
     fi
     return 0
 }
 
-# Of proofs there are nearly twice as many files as of all else, and no program is another by them: they
-# are compared again where git has brought something.
+# Of proofs there are nearly twice as many files as of all else, and no program is another by them:
+# they are compared again where git has brought something.
 note_compared() {
     local paths=(crates.txt release/sources)
     [ ! -e "$root/.git/logs/HEAD" ] || paths+=(.git/logs/HEAD)

@@ -1,7 +1,7 @@
 # Links a proved program for the release. make_release and tests/release_cases read this.
 
-# Links an object statically, with the C code of the kit. The same object gives the same bytes, by the
-# same linker and C library.
+# Links an object statically, with the C code of the kit. The same object gives the same bytes, by
+# the same linker and C library.
 # $1: the object; $2: the program to be made.
 link_static() {
     local kit
