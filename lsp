@@ -1,7 +1,8 @@
 #!/usr/bin/env bash
 # The language server of SNL, for editors: it speaks on standard input and output.
-# ./lsp --build proves and builds it, once; ./lsp starts what is built, at once, or says so in a
-# line and ends with status 2. Editors give a server seconds to answer, so it never builds unasked.
+# ./lsp starts it at once: the one that was installed, or in a clone the one that is built there,
+# and else that of the release. Editors give a server seconds to answer, so it never builds unasked:
+# ./lsp --build proves and builds the server of a clone.
 set -u
 
 # What lines on standard error begin with, and the crate of the program.
@@ -23,7 +24,7 @@ frame() {
     printf 'Content-Length: %d\r\n\r\n%s' "${#1}" "$1"
 }
 
-# A talk at whose end the server has status 0: a build runs it once.
+# A talk at whose end the server has status 0: what builds or unpacks it runs it once.
 trial() {
     frame '{"id":1,"method":"initialize"}'
     frame '{"id":2,"method":"shutdown"}'
@@ -34,23 +35,32 @@ here=${BASH_SOURCE[0]}
 [ ! -L "$here" ] || here=$(readlink -f "$here")
 root=${here%/*}
 [ "$root" != "$here" ] || root=.
-program=$root/crates/$target/out/$target
+parts=$root/everyday
+program=$root/snl_lsp
+if [ -e "$root/crates.txt" ]; then
+    program=$root/crates/$target/out/$target
+    built=$root/crates/$target/out/built
+fi
 
 if [ "${1-}" = --build ]; then
-    parts=$root/everyday
-    built=$root/crates/$target/out/built
-    build_time="two hours of one processor's time, or minutes where ./check is built,"
+    [ -e "$root/crates.txt" ] || fail "there are no sources here to build: --build is for a clone"
+    build_time="two hours by the clock on four processors, or one where ./check is built,"
     . "$parts/build.sh" && bring_up_to_date
     say "built: $(realpath "$here") is the command for an editor"
-elif [ -x "$program" ]; then
-    # In large pages memory is touched and read faster, where the system has them. Without lists of
-    # small freed blocks they are joined when they are freed, not all at once while a key waits.
-    # All memory is in one piece, of which up to 32 MiB that are freed at its end stay: keys in
-    # comments of a long text were slower without that (docs/PERF.md).
-    tunables=glibc.malloc.hugetlb=1:glibc.malloc.mxfast=0
-    tunables+=:glibc.malloc.mmap_threshold=33554432:glibc.malloc.trim_threshold=33554432
-    export GLIBC_TUNABLES=${GLIBC_TUNABLES-$tunables}
-    exec "$program"
-else
-    fail "the server is not built: ./lsp --build proves and builds it"
+    exit
 fi
+if [ ! -x "$program" ]; then
+    [ -e "$root/crates.txt" ] || fail "there is no program $program"
+    . "$parts/release.sh" && take_release
+fi
+# In large pages memory is touched and read faster, where the system has them. Without lists of
+# small freed blocks they are joined when they are freed, not all at once while a key waits.
+# All memory is in one piece, of which up to 32 MiB that are freed at its end stay: keys in
+# comments of a long text were slower without that (docs/PERF.md).
+tunables=glibc.malloc.hugetlb=1:glibc.malloc.mxfast=0
+tunables+=:glibc.malloc.mmap_threshold=33554432:glibc.malloc.trim_threshold=33554432
+export GLIBC_TUNABLES=${GLIBC_TUNABLES-$tunables}
+# What was unpacked into a temporary folder goes when the server has ended.
+[ -n "${apart-}" ] || exec "$program"
+"$program"
+exit

@@ -4,6 +4,7 @@ answer() {
     case $1 in
         --help) tell_help ;;
         --version) tell_version ;;
+        --build) build_program "$@" ;;
         --explain) explain "${@:2}" ;;
         --explain=*) explain "${1#*=}" "${@:2}" ;;
     esac
@@ -16,13 +17,30 @@ tell_help() {
     echo "${text//.\/check/$command}"
 }
 
-# A program is told from others by its checksum, as far as one compares it by eye.
+# A program is told from others by its checksum, as far as one compares it by eye. Nothing is built
+# for that.
 tell_version() {
-    local program=${SNL_CLI:-$root/snl_cli} sum
-    [ -n "${SNL_CLI-}" ] || [ ! -e "$root/crates.txt" ] || program=$root/crates/snl_cli/out/snl_cli
-    program=$(command -v "$program") || { echo 'snl-check, with no program yet' && return; }
-    sum=$(sha256sum < "$program")
-    echo "snl-check, with the program ${sum:0:12}"
+    local version found sum
+    read -r version < "$parts/version"
+    if [ -n "${SNL_CLI-}" ] || [ ! -e "$root/crates.txt" ]; then
+        program=${SNL_CLI:-$root/snl_cli}
+    else
+        program=$root/crates/$target/out/$target
+        [ -e "$program" ] || { . "$parts/release.sh" && take_release; }
+    fi
+    found=$(command -v "$program") || fail "there is no program $program"
+    sum=$(sha256sum < "$found")
+    echo "snl-check $version, with the program ${sum:0:12}"
+}
+
+# Proves and builds the program of a clone.
+build_program() {
+    [ $# = 1 ] && [ "${#words[@]}" = 0 ] || fail "--build goes alone; $usage"
+    [ -e "$root/crates.txt" ] || fail "there are no sources here to build: --build is for a clone"
+    program=$root/crates/$target/out/$target
+    built=$root/crates/$target/out/built
+    . "$parts/build.sh" && bring_up_to_date
+    say "built: $program"
 }
 
 # Prints what the tables of docs/LANGUAGE.md say of codes.

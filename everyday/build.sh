@@ -3,44 +3,19 @@
 # the program, and the folder (built) in crates/$target/out that has what was noted: the paths, the
 # checksums of their files, and a time that is from before these were made.
 
+. "$parts/sources.sh"
 binary=crates/$target/out/$target
 
 bring_up_to_date() {
     read_crates
     find_built_on "$target"
-    sources=(crates.txt)
     # Proofs are no part of this: whatever becomes of them, a program that was proved stays proved.
-    for crate in "${built_on[@]}"; do
-        for part in src specs; do
-            [ ! -d "$root/crates/$crate/$part" ] || sources+=("crates/$crate/$part")
-        done
-    done
+    find_folders src specs
+    sources=(crates.txt "${folders[@]}")
     is_same && return
     take_lock
     is_same || { . "$parts/crates.sh" && build; }
     exec {lock}>&-
-}
-
-# Reads crates.txt: what each crate of the repository is built on.
-declare -gA below=() line_of=()
-read_crates() {
-    local line name
-    while IFS= read -r line; do
-        line=${line%%#*}
-        name=${line%%[ :]*}
-        [ -z "$name" ] || below[$name]=${line#*:} line_of[$name]=$line
-    done < "$root/crates.txt"
-}
-
-# Puts the crates that a crate is built on into built_on, lowest first, and then the crate.
-built_on=()
-find_built_on() {
-    local library
-    case " ${built_on[*]-} " in *" $1 "*) return ;; esac
-    for library in ${below[$1]}; do
-        [ -z "${below[$library]+known}" ] || find_built_on "$library"
-    done
-    built_on+=("$1")
 }
 
 # Whether program and sources have the bytes that they had when it was built, as after a copy of
@@ -56,10 +31,6 @@ is_same() {
         [ -z "$(cd "$root" && find "${sources[@]}" -newer "$binary" -print -quit)" ]
     fi || { rm -f "$built/time.$$" && return 1; }
     note_build "$sums"
-}
-
-sums_of() {
-    cd "$root" && find "$@" -type f -print0 | LC_ALL=C sort -z | xargs -0r sha256sum
 }
 
 # Notes what the program was built of, if this folder can be written. The time is from before the

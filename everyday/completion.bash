@@ -19,7 +19,7 @@ _snl_check() {
     esac
     if [ -z "$choices" ] && [[ $word = -* ]]; then
         choices='--cpp -I -D --lines --list --table --dot --format= --strict --quiet --explain'
-        choices+=' --version --help --'
+        choices+=' --version --build --help --'
     fi
     if [ -n "$choices" ]; then
         mapfile -t COMPREPLY < <(compgen -W "$choices" -- "$word")

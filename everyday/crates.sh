@@ -2,7 +2,7 @@
 # other are proved side by side. What is proved is kept in crates/*/out. build.sh reads this.
 
 # How long the first build takes, from a fresh clone.
-build_time=${build_time:-"90 minutes of one processor's time"}
+build_time=${build_time:-"an hour by the clock on four processors"}
 
 # Of each crate: how many crates wait for it one after another; when it was begun; its processes'
 # group and jobs while it is under way; how far it is; and whether it is proved.

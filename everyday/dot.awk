@@ -36,7 +36,7 @@ function tell_state(name, row,    looks, mark) {
     mark = row
     sub(/^.* /, "", mark)
     states++
-    node = quoted(set_number (mark == "repeated" ? "#" states : ".") name)
+    node = quoted(set_number "" (mark == "repeated" ? "#" states : ".") name)
     looks = "label=" quoted(name)
     if (states == 1) looks = looks ", style=\"rounded,bold\""
     if (mark == "unreached") looks = looks ", style=\"rounded,filled\", fillcolor=lightgrey"
@@ -47,7 +47,7 @@ function tell_state(name, row,    looks, mark) {
 # An edge from the state at hand, to the end of the program or to a target. One that is no state is
 # dashed and red.
 function tell_edge(target, is_unknown, looks,    to) {
-    to = quoted(set_number (is_unknown ? "?" : ".") target)
+    to = quoted(set_number "" (is_unknown ? "?" : ".") target)
     if (target == "exit") {
         to = quoted(set_number " exit")
         print "        " to " [label=\"exit\", shape=plaintext];"

@@ -38,7 +38,7 @@ function json_string(text,    byte, i, shown) {
 function percented(text, set,    byte, i, shown) {
     for (i = 1; i <= length(text); i++) {
         byte = substr(text, i, 1)
-        shown = shown (byte ~ set ? sprintf("%%%02X", code_of(byte)) : byte)
+        shown = shown "" (byte ~ set ? sprintf("%%%02X", code_of(byte)) : byte)
     }
     return shown
 }

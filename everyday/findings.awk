@@ -123,7 +123,7 @@ function printed(name,    byte, i, shown) {
     if (name !~ /[^ -~]/) return name
     for (i = 1; i <= length(name); i++) {
         byte = substr(name, i, 1)
-        shown = shown (byte ~ /[ -~]/ ? byte : sprintf("\\x%02x", code_of(byte)))
+        shown = shown "" (byte ~ /[ -~]/ ? byte : sprintf("\\x%02x", code_of(byte)))
     }
     return shown
 }

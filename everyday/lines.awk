@@ -6,7 +6,7 @@ function with_bytes(marker,    shown, digits) {
     while (match(marker, /\\(\\|"|[0-7][0-7][0-7])/)) {
         digits = substr(marker, RSTART + 1, RLENGTH - 1)
         shown = shown substr(marker, 1, RSTART - 1)
-        shown = shown (digits >= "177" && digits ~ /^[1-3]/ ? byte_of(digits) : "\\" digits)
+        shown = shown "" (digits >= "177" && digits ~ /^[1-3]/ ? byte_of(digits) : "\\" digits)
         marker = substr(marker, RSTART + RLENGTH)
     }
     return shown marker

@@ -25,7 +25,7 @@ function uri_of(file) {
     return (file ~ /^\// ? "file://" : "") percented(file, "[^A-Za-z0-9._~/-]")
 }
 
-function tell_sum(errors, warnings) { }
+function tell_sum(errors, warnings) { return }
 
 function end_form(    i) {
     print "], \"tool\": {\"driver\": {\"name\": \"snl-check\", \"rules\": ["

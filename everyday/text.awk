@@ -1,6 +1,6 @@
 # The form of a terminal, which editors read: FILE:LINE: CODE TEXT, and the numbers of a file.
 
-function begin_form() { }
+function begin_form() { return }
 
 function tell_finding(file, line, code, message) {
     put(file ":" line ": " code " " message)
@@ -16,4 +16,4 @@ function put(line) {
     else print line
 }
 
-function end_form() { }
+function end_form() { return }

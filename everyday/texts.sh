@@ -2,7 +2,7 @@
 # leaves. ./check reads this where it needs it.
 
 room=$(mktemp -d) || exit 2
-trap 'rm -rf "$room"' EXIT
+trap 'rm -rf "${room:-}" "${apart:-}"' EXIT
 read -ra preprocessor <<< "${CPP:-cpp}"
 [ "$before" != cpp ] || command -v "${preprocessor[0]-}" > /dev/null \
     || fail "there is no preprocessor ${preprocessor[*]-}: \$CPP names one"
