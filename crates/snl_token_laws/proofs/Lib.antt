@@ -10,3 +10,5 @@ pub mod Marked
 pub mod Meeting
 pub mod Recuts
 pub mod MarkerNumbers
+pub mod PieceEnds
+pub mod CharacterEnds
