@@ -5,3 +5,5 @@ pub mod Kept
 pub mod Lexed
 pub mod Parsed
 pub mod Published
+pub mod SoundReplies
+pub mod TextDocs

@@ -47,3 +47,8 @@ asked_ids turns = filter_map (λ turn. asked_id (heard_at turn)) turns
 abbrev pub replied_to_all : Says → Served → List Turn → List Reply
 replied_to_all says s [] = []
 replied_to_all says s (turn ∷ turns) = replied says s turn ++ replied_to_all says (after s turn) turns
+
+-- What is kept after messages.
+abbrev pub kept_after : Served → List Turn → Served
+kept_after s [] = s
+kept_after s (turn ∷ turns) = kept_after (after s turn) turns

@@ -8,4 +8,4 @@ mod text_laws;
 
 pub use answer_laws::{replies_are_json, requests_are_answered_once, talks_are_answered};
 pub use change_laws::{changes_are_published, closings_are_published, openings_are_published};
-pub use text_laws::messages_are_text;
+pub use text_laws::{documents_are_text, messages_are_text, replies_read_back};
