@@ -19,3 +19,5 @@ pub mod NumberPieces
 pub mod NumberKinds
 pub mod MarkerFiles
 pub mod MarkerLines
+pub mod PieceEnds
+pub mod CharacterEnds

@@ -1,0 +1,9 @@
+pub mod Lists
+pub mod Rows
+pub mod Symbols
+pub mod Origins
+pub mod Outlined
+pub mod Places
+pub mod Firsts
+pub mod InState
+pub mod Meant

@@ -1,0 +1,9 @@
+//! Laws of the outline of a text and of what its names mean. A function here does nothing of its
+//! own: its contract is a law, and nothing calls it.
+#![tactic(auto)]
+
+mod meaning_laws;
+mod outline_laws;
+
+pub use meaning_laws::declared_names_mean_themselves;
+pub use outline_laws::tables_are_outlined;
