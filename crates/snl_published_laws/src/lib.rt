@@ -3,5 +3,7 @@
 #![tactic(auto)]
 
 mod diagnostic_laws;
+mod range_laws;
 
 pub use diagnostic_laws::first_diagnostics_are_published;
+pub use range_laws::token_ranges_lead_back;
