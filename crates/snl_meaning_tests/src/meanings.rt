@@ -61,7 +61,12 @@ fn names_mean_declarations(rt: HostRuntime) -> Result<(), Fail> {
     let mut session = Session::new(rt.alloc())?;
     session.edit(0, 0, TEXT)?;
     for (offset, wanted) in &NAMES {
-        let found = match meaning_near(rt.alloc(), session.text(), &session.kept().lists, *offset)? {
+        let found = match meaning_near(
+            rt.alloc(),
+            session.text(),
+            &session.kept().lists,
+            *offset,
+        )? {
             Some(meaning) => Some(meaning.declared.start),
             None => None,
         };
