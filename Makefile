@@ -34,7 +34,7 @@ install: all
 	install -m 644 everyday/completion.bash '$(completions)/snl-check'
 	install -m 644 CHANGELOG.md packaging/copyright '$(papers)/'
 	cp -R editors '$(shared)/'
-	rm '$(shared)/editors/vim/make_syntax'
+	rm '$(shared)/editors/words' '$(shared)/editors/'*/make_*
 ifeq ($(SNL_CLI),)
 	everyday/put_program snl_cli '$(library)/snl_cli'
 else

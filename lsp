@@ -20,6 +20,22 @@ fail() {
     exit 2
 }
 
+tell_help() {
+    echo "Serves an editor by the Language Server Protocol, on standard input and output.
+$command             what an editor starts; --stdio after it is taken, and changes nothing
+$command --build     proves and builds the server of a clone, where the toolchain is
+$command --version   tells the version, and the checksum of the program
+editors/README.md says how an editor is told of it."
+}
+
+# A program is told from others by its checksum, as far as one compares it by eye.
+tell_version() {
+    local version sum
+    read -r version < "$parts/version"
+    sum=$(sha256sum < "$program")
+    echo "snl-lsp $version, with the program ${sum:0:12}"
+}
+
 frame() {
     printf 'Content-Length: %d\r\n\r\n%s' "${#1}" "$1"
 }
@@ -37,11 +53,20 @@ root=${here%/*}
 [ "$root" != "$here" ] || root=.
 parts=$root/everyday
 program=$root/snl_lsp
+command=snl-lsp
 if [ -e "$root/crates.txt" ]; then
+    command=./lsp
     program=$root/crates/$target/out/$target
     built=$root/crates/$target/out/built
 fi
 
+usage="usage: $command [--stdio | --build | --help | --version]"
+[ $# -le 1 ] || fail "$usage"
+case ${1-} in
+    '' | --stdio | --version | --build) ;;
+    --help) tell_help && exit ;;
+    *) fail "$usage" ;;
+esac
 if [ "${1-}" = --build ]; then
     [ -e "$root/crates.txt" ] || fail "there are no sources here to build: --build is for a clone"
     build_time="two hours by the clock on four processors, or one where ./check is built,"
@@ -52,6 +77,10 @@ fi
 if [ ! -x "$program" ]; then
     [ -e "$root/crates.txt" ] || fail "there is no program $program"
     . "$parts/release.sh" && take_release
+fi
+if [ "${1-}" = --version ]; then
+    tell_version
+    exit
 fi
 # In large pages memory is touched and read faster, where the system has them. Without lists of
 # small freed blocks they are joined when they are freed, not all at once while a key waits.

@@ -1,6 +1,7 @@
 """What is asked of a document: what is wrong with an outline, a definition or a hover, by the text
 of the document, its words and its listing."""
 import re
+from typing import Callable, NamedTuple
 
 from texts import offset_of
 
@@ -11,19 +12,31 @@ WORD = re.compile(rb"[A-Za-z_][A-Za-z0-9_]*")
 
 def wrong_in_answer(result, asked, is_utf8):
     """What is wrong with the answer to a question; nothing, where it fits the text."""
-    method = asked["method"].rpartition("/")[2]
-    if method == "documentSymbol":
-        return wrong_in_outline(result, asked["text"], asked["rows"], is_utf8)
+    return METHODS[asked["method"]].wrong_in(result, asked, is_utf8)
+
+
+def wrong_in_symbols(result, asked, is_utf8):
+    return wrong_in_outline(result, asked["text"], asked["rows"], is_utf8)
+
+
+def wrong_in_definition(result, asked, is_utf8):
     if result is None:
         return ""
-    text = asked["text"]
-    if method == "definition":
-        if sorted(result) != ["range", "uri"] or result["uri"] != asked["uri"]:
-            return f"no place of {asked['uri']}: {result}"
-    elif wrong := wrong_in_contents(result):
-        return wrong
-    there = bytes_of(text, result["range"], is_utf8)
-    words = words_near(text, offset_of(text, *asked["place"], is_utf8))
+    if sorted(result) != ["range", "uri"] or result["uri"] != asked["uri"]:
+        return f"no place of {asked['uri']}: {result}"
+    return wrong_in_range(result["range"], asked, is_utf8)
+
+
+def wrong_in_hover(result, asked, is_utf8):
+    if result is None:
+        return ""
+    return wrong_in_contents(result) or wrong_in_range(result["range"], asked, is_utf8)
+
+
+def wrong_in_range(between, asked, is_utf8):
+    """What is wrong with a range that is to be of the name that the cursor is on."""
+    there = bytes_of(asked["text"], between, is_utf8)
+    words = words_near(asked["text"], offset_of(asked["text"], *asked["place"], is_utf8))
     return "" if there in words else f"{there!r} in place of one of {words}"
 
 
@@ -148,3 +161,22 @@ def names_listed(rows):
         elif words[0] == "state":
             sets[-1][1].append(words[1])
     return program, flags, sets
+
+
+# ---- all of them
+
+
+class Method(NamedTuple):
+    """A request on a document: as what the answer to `initialize` offers it, whether it asks of a
+    place, and what is wrong with the answer, by its result, what was asked and the encoding."""
+
+    provider: str
+    is_of_place: bool
+    wrong_in: Callable
+
+
+METHODS = {
+    "textDocument/documentSymbol": Method("documentSymbolProvider", False, wrong_in_symbols),
+    "textDocument/definition": Method("definitionProvider", True, wrong_in_definition),
+    "textDocument/hover": Method("hoverProvider", True, wrong_in_hover),
+}

@@ -4,7 +4,7 @@ import json
 import os
 import subprocess
 
-from asked import wrong_in_answer
+from asked import METHODS, wrong_in_answer
 from texts import changed, offset_of
 
 LIMIT = 1048576
@@ -12,8 +12,6 @@ LONGEST = 67108864
 MOST_SHOWN = 1000
 LARGE = ": more than 1048576 bytes: not checked"
 LOST = ": a change could not be followed: open the file again"
-# What is asked of a document.
-ASKED = ("textDocument/documentSymbol", "textDocument/definition", "textDocument/hover")
 ERRORS = {
     -32700: "parse error",
     -32600: "invalid request",
@@ -222,7 +220,7 @@ class Model:
         if method == "shutdown":
             self.phase = "shut"
             return {"jsonrpc": "2.0", "id": number, "result": None}
-        if method in ASKED:
+        if method in METHODS:
             return self.asked_of_document(number, method, params)
         return error(number, -32601)
 
@@ -230,7 +228,7 @@ class Model:
         """What is to be answered to a question on a document, by its text if that is checked."""
         try:
             uri = params["textDocument"]["uri"]
-            place = None if method == ASKED[0] else params["position"]
+            place = params["position"] if METHODS[method].is_of_place else None
             numbers = [] if place is None else [place["line"], place["character"]]
         except (KeyError, TypeError):
             return error(number, -32602)
@@ -312,9 +310,7 @@ def is_number(value):
 def initialized(number, encoding):
     """The answer to `initialize`."""
     capabilities = {
-        "definitionProvider": True,
-        "documentSymbolProvider": True,
-        "hoverProvider": True,
+        **{it.provider: True for it in METHODS.values()},
         "positionEncoding": encoding,
         "textDocumentSync": {"change": 2, "openClose": True},
     }

@@ -2,6 +2,7 @@
 nothing to tell, and where no such thing may be asked."""
 import json
 
+from asked import METHODS
 from protocol import (
     ask, bodies, did_change, did_close, did_open, frame, initialize, note, part, request, run,
 )
@@ -146,12 +147,13 @@ def asks(uri, line=7, character=27):
 def at_other_times():
     """Documents that aren't open, or not checked, or have changed; parameters that do not fit."""
     opened = did_open(URI, TEXT)
-    yield "a document that isn't open", [opened, *asks(OTHER)], [-32602] * 3
-    yield "one that is closed", [opened, did_close(URI), *asks(URI)], [-32602] * 3
+    refused, nothing = [-32602] * len(METHODS), [None] * len(METHODS)
+    yield "a document that isn't open", [opened, *asks(OTHER)], refused
+    yield "one that is closed", [opened, did_close(URI), *asks(URI)], refused
     lost = did_change(URI, [part((1, 0), (0, 0), "")])
-    yield "one that is lost", [opened, lost, *asks(URI)], [None] * 3
+    yield "one that is lost", [opened, lost, *asks(URI)], nothing
     large = did_open(OTHER, TEXT + " " * 1048576)
-    yield "one that is too large", [opened, large, *asks(OTHER)], [None] * 3
+    yield "one that is too large", [opened, large, *asks(OTHER)], nothing
     shrunk = did_change(OTHER, [part((11, 0), (11, 2000000), "")])
     answers = [OUTLINE, located(LEVEL, OTHER), told(*HOVERS[0][2:])]
     yield "one that fits again", [large, shrunk, opened, *asks(OTHER)], answers
@@ -177,7 +179,7 @@ def beside(server):
     out, _, status = run(server, b"".join(map(frame, [*sent, note("exit")])))
     answers = [json.loads(it) for it in bodies(out)]
     codes = [it["error"]["code"] for it in answers if "error" in it]
-    is_right = (codes, status) == ([-32002] * 3 + [-32600] * 3, 0)
+    is_right = (codes, status) == ([-32002] * len(METHODS) + [-32600] * len(METHODS), 0)
     yield "at other times", "" if is_right else f"{codes}, status {status}"
 
 
@@ -186,7 +188,7 @@ def wide(server):
     for encodings, column in ((None, 14), (["utf-8"], 17)):
         name, use = in_line(1, column, column + 4), in_line(1, column + 29, column + 33)
         messages = [did_open(URI, WIDE), *asks(URI, 1, column + 33)]
-        outline, definition, hover = results(server, messages, encodings)
+        outline, definition, hover, *_ = results(server, messages, encodings)
         declared = [it for it in outline if it["name"] == "wide"]
         wanted = symbol(13, "wide", in_line(1, column - 4, column + 5), name)
         is_right = (declared, definition) == ([wanted], located(name)) and hover["range"] == use

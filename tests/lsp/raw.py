@@ -6,7 +6,7 @@ import tempfile
 
 from protocol import (
     LOST, Checker, Model, Server, bodies, compare, did_change, did_close, did_open, error, frame,
-    initialize, note, part, request, run,
+    initialize, initialized, note, part, request, run,
 )
 
 PUMP = "program pump\nint x;\nss s { state a { when (x) { } state b } state c { } }\n"
@@ -14,20 +14,7 @@ SOUND = "program p ss s { state a { when () { } exit } }"
 URI = "file:///a.stt"
 BEGIN = frame(initialize()) + frame(note("initialized", {}))
 END = frame(request(2, "shutdown")) + frame(note("exit"))
-STARTED = {
-    "id": 1,
-    "jsonrpc": "2.0",
-    "result": {
-        "capabilities": {
-            "definitionProvider": True,
-            "documentSymbolProvider": True,
-            "hoverProvider": True,
-            "positionEncoding": "utf-16",
-            "textDocumentSync": {"change": 2, "openClose": True},
-        },
-        "serverInfo": {"name": "snl_lsp"},
-    },
-}
+STARTED = initialized(1, "utf-16")
 SHUT = {"id": 2, "jsonrpc": "2.0", "result": None}
 
 

@@ -1,6 +1,6 @@
 """Recordings of clients: what neovim and eglot sent is in recordings/NAME.in, what the server
-answers in NAME.out, byte for byte. The model says the same of it, by what `snl_cli` finds in each
-text.
+answers in NAME.out, byte for byte, but for the first answer, that to `initialize`. The model says
+the same of all of it, by what `snl_cli` finds in each text.
 
 Usage: recordings.py SERVER CLI    writes each NAME.out, where the model agrees
 """
@@ -8,25 +8,27 @@ import glob
 import os
 import sys
 
-from protocol import Checker, Model, bodies, compare, run
+from protocol import Checker, Model, bodies, compare, frame, run
 
 HERE = os.path.join(os.path.dirname(os.path.realpath(__file__)), "recordings")
 
 
 def judged(server, cli):
-    """For each recording its path, the server's output, and what is wrong with it by the model."""
+    """For each recording its path, the server's output but for the first answer, and what is wrong
+    with all of it by the model."""
     for path in sorted(glob.glob(f"{HERE}/*.in")):
         with open(path, "rb") as file:
             data = file.read()
         out, errors, status = run(server, data)
         checker = Checker(cli)
         model = Model(checker)
-        wrong = [it for it in compare(model, bodies(data), bodies(out)) if it]
+        answers = bodies(out)
+        wrong = [it for it in compare(model, bodies(data), answers) if it]
         checker.end()
         ending = 1 if model.status is None else model.status
         if (errors, status) != (b"", ending):
             wrong.append(f"status {status}, {errors!r}")
-        yield path, out, wrong
+        yield path, b"".join(map(frame, answers[1:])), wrong
 
 
 def cases(server, cli):

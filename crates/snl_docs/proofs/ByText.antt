@@ -6,17 +6,16 @@ use Rattle.serde_json.specs.Data.{Data}
 use Rattle.snl_place.specs.declared.places.Encoding.{Encoding}
 use Rattle.snl_hear.specs.Heard.{Heard, NoJson, NoMessage, Response, Request, Notification}
 use Rattle.snl_hear.specs.Notifications.{Noted, Initialized, Exit, DidOpen, DidChange, DidClose, InvalidParams, Other}
-use Rattle.snl_hear.specs.Requests.{Asked, Initialize, Shutdown, DocumentSymbol, Definition, Hover, MethodNotFound}
+use Rattle.snl_hear.specs.Requests.{Asked, Initialize, Shutdown, OfDocument, MethodNotFound}
 use Rattle.snl_hear.specs.Requests as asked
 use Rattle.snl_docs.specs.declared.phase.Phase.{Phase}
 use Rattle.snl_docs.specs.declared.phase.Phase.TheVariants.{New, Ready, Shut, Gone}
-use Rattle.snl_docs.specs.declared.question.Question.TheVariants as question
 use Rattle.snl_document.specs.declared.standing.Standing.{Standing}
 use Rattle.snl_document.specs.declared.standing.Standing.TheVariants.{Checked, Large, Lost}
 use Rattle.snl_document.specs.Documents.{Doc, after_changes, document_of, lost, opened, put, updated, without}
 use Rattle.snl_docs.specs.Known.{IsByText, text_of}
 use Rattle.snl_replies.specs.Replies.{Reply, Publish}
-use Rattle.snl_docs.specs.Served.{Served, after, after_heard, after_note, answer_in, is_ready, replied, replies_to, told_note, with_docs}
+use Rattle.snl_docs.specs.Served.{Served, after, after_heard, after_note, answer_in_phase, is_ready, replied, replies_to, told_note, with_docs}
 use Rattle.snl_document.specs.Told.{told_of, told_of_all, told_of_named}
 use Rattle.snl_document.specs.Texts.{standing}
 use Rattle.snl_document.specs.Told.{found_of_text, notices, stays, told, told_after}
@@ -124,22 +123,16 @@ note_by_text says s Other =
 
 -- An answer to a request publishes nothing.
 answer_by_text : (says : Says) (s : Served) (phase : Phase) (encoding : Encoding) (docs : List Doc)
-    (id : Data) (asked : Asked) → IsByText says s (answer_in says phase encoding docs id asked)
+    (id : Data) (asked : Asked) → IsByText says s (answer_in_phase says phase encoding docs id asked)
 answer_by_text says s New encoding docs id (Initialize other) = tt
 answer_by_text says s New encoding docs id Shutdown = tt
-answer_by_text says s New encoding docs id (DocumentSymbol uri) = tt
-answer_by_text says s New encoding docs id (Definition at) = tt
-answer_by_text says s New encoding docs id (Hover at) = tt
+answer_by_text says s New encoding docs id (OfDocument uri query) = tt
 answer_by_text says s New encoding docs id asked.InvalidParams = tt
 answer_by_text says s New encoding docs id MethodNotFound = tt
 answer_by_text says s Ready encoding docs id (Initialize other) = tt
 answer_by_text says s Ready encoding docs id Shutdown = tt
-answer_by_text says s Ready encoding docs id (DocumentSymbol uri) =
-    on_by_text says s encoding docs id uri question.Symbols
-answer_by_text says s Ready encoding docs id (Definition at) =
-    on_by_text says s encoding docs id at.uri (question.Definition at.place)
-answer_by_text says s Ready encoding docs id (Hover at) =
-    on_by_text says s encoding docs id at.uri (question.Hover at.place)
+answer_by_text says s Ready encoding docs id (OfDocument uri query) =
+    on_by_text says s encoding docs id uri query
 answer_by_text says s Ready encoding docs id asked.InvalidParams = tt
 answer_by_text says s Ready encoding docs id MethodNotFound = tt
 answer_by_text says s Shut encoding docs id asked = tt
@@ -154,7 +147,7 @@ heard_by_text says s NoMessage = All-cons (IsByText says s) _ [] tt (All-nil (Is
 heard_by_text says s Response = All-nil (IsByText says s)
 heard_by_text says s (Request id asked) =
     let now : Served = after_heard s (Request id asked) in
-    All-cons (IsByText says now) (answer_in says s.phase s.encoding s.docs id asked) []
+    All-cons (IsByText says now) (answer_in_phase says s.phase s.encoding s.docs id asked) []
     (answer_by_text says now s.phase s.encoding s.docs id asked) (All-nil (IsByText says now))
 heard_by_text says s (Notification noted) = note_by_text says s noted
 

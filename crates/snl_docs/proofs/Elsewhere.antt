@@ -2,7 +2,7 @@
 use Rattle.std.proofs.Common.{◌≡◌, ℕ, Bool, true, false, cond, List, None, Some, refl}
 use Rattle.snl_hear.specs.Heard.{Heard, NoJson, NoMessage, Response, Request, Notification}
 use Rattle.snl_hear.specs.Notifications.{Noted, Initialized, Exit, DidOpen, DidChange, DidClose, InvalidParams, Other}
-use Rattle.snl_hear.specs.Requests.{Asked, Initialize, Shutdown, DocumentSymbol, Definition, Hover, MethodNotFound}
+use Rattle.snl_hear.specs.Requests.{Asked, Initialize, Shutdown, OfDocument, MethodNotFound}
 use Rattle.snl_hear.specs.Requests as asked
 use Rattle.snl_docs.specs.declared.phase.Phase.{Phase}
 use Rattle.snl_docs.specs.declared.phase.Phase.TheVariants.{New, Ready, Shut, Gone}
@@ -17,16 +17,12 @@ asked_elsewhere : (s : Served) (phase : Phase) (asked : Asked) →
     (after_request phase s asked).docs ≡ s.docs
 asked_elsewhere s New (Initialize encoding) = refl
 asked_elsewhere s New Shutdown = refl
-asked_elsewhere s New (DocumentSymbol uri) = refl
-asked_elsewhere s New (Definition at) = refl
-asked_elsewhere s New (Hover at) = refl
+asked_elsewhere s New (OfDocument uri query) = refl
 asked_elsewhere s New asked.InvalidParams = refl
 asked_elsewhere s New MethodNotFound = refl
 asked_elsewhere s Ready (Initialize encoding) = refl
 asked_elsewhere s Ready Shutdown = refl
-asked_elsewhere s Ready (DocumentSymbol uri) = refl
-asked_elsewhere s Ready (Definition at) = refl
-asked_elsewhere s Ready (Hover at) = refl
+asked_elsewhere s Ready (OfDocument uri query) = refl
 asked_elsewhere s Ready asked.InvalidParams = refl
 asked_elsewhere s Ready MethodNotFound = refl
 asked_elsewhere s Shut asked = refl

@@ -2,11 +2,11 @@
 use Rattle.std.specs.Prelude.{⊤, ◌≡◌, ◌≢◌, ℕ, List, Option, Some, None, option_and_then, option_map}
 use Rattle.snl_hear.specs.Heard.{Heard, NoJson, NoMessage, Response, Request, Notification}
 use Rattle.snl_hear.specs.Notifications.{Noted, Initialized, Exit, DidOpen, DidChange, DidClose, InvalidParams, Other}
-use Rattle.snl_hear.specs.Requests.{Asked, Initialize, Shutdown, DocumentSymbol, Definition, Hover, MethodNotFound}
+use Rattle.snl_hear.specs.Requests.{Asked, Initialize, Shutdown, OfDocument, MethodNotFound}
 use Rattle.snl_hear.specs.Requests as asked
 use Rattle.snl_document.specs.Documents.{Doc, document_of}
 use Rattle.snl_document.specs.Says.{Says}
-use Rattle.snl_replies.specs.Replies.{Reply, Publish, Notice, AnswerNull, AnswerInitialize, AnswerSymbols, AnswerLocation, AnswerHover, AnswerError}
+use Rattle.snl_replies.specs.Replies.{Reply, Publish, Notice, AnswerNull, AnswerInitialize, Answer, AnswerError}
 use Rattle.snl_docs.specs.Served.{Served}
 use Rattle.snl_document.specs.Texts.{checked}
 use Rattle.snl_document.specs.Told.{found_of_text}
@@ -30,18 +30,14 @@ IsByText says s (Publish found uri version) =
 IsByText says s (Notice severity message) = ⊤
 IsByText says s (AnswerNull id) = ⊤
 IsByText says s (AnswerInitialize id encoding) = ⊤
-IsByText says s (AnswerSymbols id symbols) = ⊤
-IsByText says s (AnswerLocation id uri start stop) = ⊤
-IsByText says s (AnswerHover id contents start stop) = ⊤
+IsByText says s (Answer id uri answered) = ⊤
 IsByText says s (AnswerError id code) = ⊤
 
 -- It is asked of the document of this URI.
 abbrev pub IsAskedOf : (uri : List ℕ) → Asked → Type 0
 IsAskedOf uri (Initialize encoding) = ⊥
 IsAskedOf uri Shutdown = ⊥
-IsAskedOf uri (DocumentSymbol other) = other ≡ uri
-IsAskedOf uri (Definition at) = at.uri ≡ uri
-IsAskedOf uri (Hover at) = at.uri ≡ uri
+IsAskedOf uri (OfDocument other query) = other ≡ uri
 IsAskedOf uri asked.InvalidParams = ⊥
 IsAskedOf uri MethodNotFound = ⊥
 

@@ -5,12 +5,11 @@ use Rattle.snl_place.specs.declared.places.Encoding.{Encoding}
 use Rattle.snl_place.specs.declared.places.Encoding.TheVariants.{Utf16}
 use Rattle.snl_hear.specs.Heard.{Heard, NoJson, NoMessage, Response, Request, Notification}
 use Rattle.snl_hear.specs.Notifications.{Noted, Initialized, Exit, DidOpen, DidChange, DidClose, InvalidParams, Other}
-use Rattle.snl_hear.specs.Requests.{Asked, Initialize, Shutdown, DocumentSymbol, Definition, Hover, MethodNotFound}
+use Rattle.snl_hear.specs.Requests.{Asked, Initialize, Shutdown, OfDocument, MethodNotFound}
 use Rattle.snl_hear.specs.Requests as asked
 use Rattle.snl_say.specs.declared.answers.ErrorCode.TheVariants as error
 use Rattle.snl_docs.specs.declared.phase.Phase.{Phase}
 use Rattle.snl_docs.specs.declared.phase.Phase.TheVariants.{New, Ready, Shut, Gone}
-use Rattle.snl_docs.specs.declared.question.Question.TheVariants as question
 use Rattle.snl_docs.specs.Asked.{answer_on}
 use Rattle.snl_document.specs.Says.{Says}
 use Rattle.snl_document.specs.Documents.{Doc, after_changes, lost, opened, put, updated, without}
@@ -82,21 +81,17 @@ answer_first id _ = AnswerError id error.ServerNotInitialized
 abbrev pub answer_ready : Says → Encoding → List Doc → (id : Data) → Asked → Reply
 answer_ready says encoding docs id (Initialize other) = AnswerError id error.InvalidRequest
 answer_ready says encoding docs id Shutdown = AnswerNull id
-answer_ready says encoding docs id (DocumentSymbol uri) =
-    answer_on says encoding docs id uri question.Symbols
-answer_ready says encoding docs id (Definition at) =
-    answer_on says encoding docs id at.uri (question.Definition at.place)
-answer_ready says encoding docs id (Hover at) =
-    answer_on says encoding docs id at.uri (question.Hover at.place)
+answer_ready says encoding docs id (OfDocument uri query) =
+    answer_on says encoding docs id uri query
 answer_ready says encoding docs id asked.InvalidParams = AnswerError id error.InvalidParams
 answer_ready says encoding docs id MethodNotFound = AnswerError id error.MethodNotFound
 
 -- One answer for each request.
-abbrev pub answer_in : Says → Phase → Encoding → List Doc → (id : Data) → Asked → Reply
-answer_in says New encoding docs id asked = answer_first id asked
-answer_in says Ready encoding docs id asked = answer_ready says encoding docs id asked
-answer_in says Shut encoding docs id asked = AnswerError id error.InvalidRequest
-answer_in says (Gone clean) encoding docs id asked = AnswerError id error.InvalidRequest
+abbrev pub answer_in_phase : Says → Phase → Encoding → List Doc → (id : Data) → Asked → Reply
+answer_in_phase says New encoding docs id asked = answer_first id asked
+answer_in_phase says Ready encoding docs id asked = answer_ready says encoding docs id asked
+answer_in_phase says Shut encoding docs id asked = AnswerError id error.InvalidRequest
+answer_in_phase says (Gone clean) encoding docs id asked = AnswerError id error.InvalidRequest
 
 -- ---- what is told of documents
 
@@ -153,7 +148,7 @@ abbrev pub replies_to : Says → Served → Heard → List Reply
 replies_to says s NoJson = AnswerError null error.ParseError ∷ told_of_all says s.encoding s.docs
 replies_to says s NoMessage = AnswerError null error.InvalidRequest ∷ []
 replies_to says s Response = []
-replies_to says s (Request id asked) = answer_in says s.phase s.encoding s.docs id asked ∷ []
+replies_to says s (Request id asked) = answer_in_phase says s.phase s.encoding s.docs id asked ∷ []
 replies_to says s (Notification noted) = told_note says s noted
 
 -- What is kept after a message.

@@ -51,7 +51,7 @@ impl<C: CheckedText> Model for Docs<C> {
 }
 
 impl<C: CheckedText + Drop> Docs<C> {
-    ghost use Rattle.snl_docs.specs.Served.{after_heard, after_note, after_request, answer_in, answer_first, asked_first, docs_after, replies_to, start, told_by, told_note, with_docs};
+    ghost use Rattle.snl_docs.specs.Served.{after_heard, after_note, after_request, answer_in_phase, answer_first, asked_first, docs_after, replies_to, start, told_by, told_note, with_docs};
 
     /// Nothing is open, and `initialize` is to come.
     #[tactic(auto, unfolding(crate::specs::Served::start))]
@@ -132,7 +132,7 @@ impl<C: CheckedText + Drop> Docs<C> {
     ) -> Result<(), OutOfMemory>
         ensures state { self.new ≡ after_request self.old.phase self.old (asked_of request.entry) }
         ensures said { OnOk result (said.new.items ≡ said.old.items
-            ++ framed_reply (answer_in C.says self.old.phase self.old.encoding self.old.docs
+            ++ framed_reply (answer_in_phase C.says self.old.phase self.old.encoding self.old.docs
             (id_data id.entry) (asked_of request.entry))) }
     {
         match self.phase {
@@ -166,9 +166,7 @@ impl<C: CheckedText + Drop> Docs<C> {
                 say_initialize(said, id, encoding)
             }
             Request::Shutdown
-            | Request::DocumentSymbol { .. }
-            | Request::Definition(_)
-            | Request::Hover(_)
+            | Request::OfDocument { .. }
             | Request::InvalidParams
             | Request::MethodNotFound => {
                 say_error(said, Some(id), ErrorCode::ServerNotInitialized)

@@ -3,15 +3,13 @@
 
 ghost use Rattle.std.specs.Prelude.{◌≡◌, ◌∷◌, [], ℕ, List, Some, All};
 ghost use Rattle.serde_json.specs.Data.{Data};
-ghost use Rattle.snl_hear.specs.Documents.{Located};
 ghost use Rattle.snl_hear.specs.Heard.{Request};
-ghost use Rattle.snl_hear.specs.Requests.{Asked, Definition, DocumentSymbol, Hover};
+ghost use Rattle.snl_hear.specs.Requests.{Asked, OfDocument, Query};
 ghost use Rattle.snl_docs.specs.declared.phase.Phase.TheVariants.{Ready};
-ghost use Rattle.snl_docs.specs.Asked.{hover_answer, location_answer};
 ghost use Rattle.snl_document.specs.Documents.{document_of};
 ghost use Rattle.snl_document.specs.Says.{Says};
 ghost use Rattle.snl_docs.specs.Known.{IsAskedOf, IsByText, IsElsewhere, checked_text, kept_for};
-ghost use Rattle.snl_replies.specs.Replies.{AnswerSymbols};
+ghost use Rattle.snl_replies.specs.Replies.{Answer};
 ghost use Rattle.snl_docs.specs.Served.{Served, after, replied};
 ghost use Rattle.snl_turns.specs.Turns.{Turn, heard_at};
 
@@ -32,22 +30,11 @@ pub fn others_stay()
 /// checked. Nothing else of what is kept is looked at, but how far the talk is and how places are
 /// counted.
 pub fn answered_by_text()
-    ensures symbols { (says : Says) (s : Served) (turn : Turn) (id : Data) (uri text : List ℕ)
-        → s.phase ≡ Ready → heard_at turn ≡ Request id (DocumentSymbol uri)
+    ensures question { (says : Says) (s : Served) (turn : Turn) (id : Data) (uri text : List ℕ)
+        (query : Query)
+        → s.phase ≡ Ready → heard_at turn ≡ Request id (OfDocument uri query)
         → checked_text uri s.docs ≡ Some text
-        → replied says s turn ≡ AnswerSymbols id (says.symbols_in s.encoding text) ∷ [] }
-    ensures definition { (says : Says) (s : Served) (turn : Turn) (id : Data) (at : Located)
-        (text : List ℕ)
-        → s.phase ≡ Ready → heard_at turn ≡ Request id (Definition at)
-        → checked_text at.uri s.docs ≡ Some text
-        → replied says s turn
-        ≡ location_answer id at.uri (says.declared_at s.encoding text at.place) ∷ [] }
-    ensures hover { (says : Says) (s : Served) (turn : Turn) (id : Data) (at : Located)
-        (text : List ℕ)
-        → s.phase ≡ Ready → heard_at turn ≡ Request id (Hover at)
-        → checked_text at.uri s.docs ≡ Some text
-        → replied says s turn
-        ≡ hover_answer id (says.told_at s.encoding text at.place) ∷ [] }
+        → replied says s turn ≡ Answer id uri (says.answer_in s.encoding text query) ∷ [] }
     ensures alone { (says : Says) (s other : Served) (turn : Turn) (id : Data) (asked : Asked)
         (uri : List ℕ)
         → heard_at turn ≡ Request id asked → IsAskedOf uri asked

@@ -11,7 +11,6 @@ mod answers;
 mod docs;
 mod laws;
 mod phase;
-mod question;
 mod requests;
 
 pub use docs::Docs;

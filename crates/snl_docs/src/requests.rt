@@ -9,7 +9,6 @@ ghost use Rattle.snl_replies.specs.Replies.{framed_reply};
 ghost use Rattle.snl_docs.specs.Served.{answer_ready};
 
 use crate::answers::answer;
-use crate::question::Question;
 use snl_cut::OutOfMemory;
 use snl_document::{CheckedText, Document};
 use snl_hear::Request;
@@ -31,16 +30,8 @@ pub fn answer_ready<C: CheckedText + Drop>(
 {
     match request {
         Request::Shutdown => say_null(said, id)?,
-        Request::DocumentSymbol { uri } => {
-            answer(documents, encoding, uri, Question::Symbols, id, said)?;
-        }
-        Request::Definition(at) => {
-            let question = Question::Definition(at.place);
-            answer(documents, encoding, at.uri, question, id, said)?;
-        }
-        Request::Hover(at) => {
-            let question = Question::Hover(at.place);
-            answer(documents, encoding, at.uri, question, id, said)?;
+        Request::OfDocument { uri, question } => {
+            answer(documents, encoding, uri, question, id, said)?;
         }
         Request::Initialize(_) => say_error(said, Some(id), ErrorCode::InvalidRequest)?,
         Request::InvalidParams => say_error(said, Some(id), ErrorCode::InvalidParams)?,

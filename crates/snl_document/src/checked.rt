@@ -1,26 +1,19 @@
 //! A text that is checked, and what it says, as a client is told it.
 
 ghost use Rattle.std.specs.Prelude.{◌≡◌, ◌≤◌, ℕ, [], IfOk, List, OnErr, OnOk, length, map};
-ghost use Rattle.std.specs.Prelude.{option_map};
 ghost use Rattle.snl_lex.specs.LineList.{line_ends};
 ghost use Rattle.snl_lex.specs.Edit.{spliced};
+ghost use Rattle.snl_say.specs.Answered.{answered_of};
 ghost use Rattle.snl_say.specs.Publish.{found_of};
-ghost use Rattle.snl_say.specs.Symbols.{symbol_of};
-ghost use Rattle.snl_document.specs.Says.{Says, told_of_name};
+ghost use Rattle.snl_hear.specs.Requests.{query_of};
+ghost use Rattle.snl_document.specs.Says.{Says};
 ghost use Rattle.snl_document.specs.Texts.{limit};
 
 use snl_cut::OutOfMemory;
-use snl_place::{Encoding, Place};
-use snl_say::{Shown, ShownSymbol};
+use snl_hear::Question;
+use snl_place::Encoding;
+use snl_say::{Answer, Shown};
 use std::alloc::Global;
-
-/// What is told of a name: lines, and the places between which the name is.
-#[derive(Debug, Drop)]
-pub struct ToldName {
-    pub lines: Vec<u8>,
-    pub start: Place,
-    pub stop: Place,
-}
 
 /// A text that is checked after each edit, and what it says. All that it says is what the text
 /// alone defines.
@@ -57,32 +50,13 @@ pub trait CheckedText {
         ensures { IfOk result (λ shown. map (λ s. found_of s) shown.items
             ≡ says.found_in encoding (text_of self.now)) };
 
-    /// Its symbols, as they are shown.
-    fn symbols(
+    /// The answer to a question on it.
+    fn answer(
         &self,
         alloc: Global,
         encoding: Encoding,
-    ) -> Result<Vec<ShownSymbol<'_>>, OutOfMemory>
-        ensures { IfOk result (λ shown. map (λ s. symbol_of s) shown.items
-            ≡ says.symbols_in encoding (text_of self.now)) };
-
-    /// The places between which the name is that the name at a place means, if it means one.
-    fn declared(
-        &self,
-        alloc: Global,
-        encoding: Encoding,
-        place: Place,
-    ) -> Result<Option<(Place, Place)>, OutOfMemory>
-        ensures { IfOk result (λ declared. declared
-            ≡ says.declared_at encoding (text_of self.now) place) };
-
-    /// What is told of the name at a place, if it means something.
-    fn told(
-        &self,
-        alloc: Global,
-        encoding: Encoding,
-        place: Place,
-    ) -> Result<Option<ToldName>, OutOfMemory>
-        ensures { IfOk result (λ told. option_map (λ name. told_of_name name) told
-            ≡ says.told_at encoding (text_of self.now) place) };
+        question: Question,
+    ) -> Result<Answer<'_>, OutOfMemory>
+        ensures { IfOk result (λ answer. answered_of answer
+            ≡ says.answer_in encoding (text_of self.now) (query_of question)) };
 }

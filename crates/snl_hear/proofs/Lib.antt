@@ -1,10 +1,12 @@
 mod Arrays
 mod Bodies
+mod Evaluated
 mod Kept
 mod Members
 mod NumberTexts
 mod ReadBack
 mod Seen
+mod SoundAnswered
 mod SoundAnswers
 mod SoundNotices
 mod SoundPlaces

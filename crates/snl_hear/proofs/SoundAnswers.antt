@@ -5,12 +5,13 @@ use Rattle.serde_json.specs.Written.{compact_text}
 use Rattle.snl_place.specs.declared.places.Encoding.{Encoding}
 use Rattle.snl_place.specs.declared.places.Encoding.TheVariants.{Utf8, Utf16}
 use Rattle.snl_place.specs.declared.places.Place.{Place}
-use Rattle.snl_say.specs.Answers.{answer_data, capabilities_data, encoding_name, error_data, error_message, error_number, hover_data, hovered_data, initialize_data, initialized_data, located_data, location_data, null_data, sync_data}
+use Rattle.snl_say.specs.Answers.{answer_data, error_data, error_message, error_number, hover_data, hovered_data, initialize_data, initialized_data, located_data, location_data, null_data}
 use Rattle.snl_say.specs.declared.answers.ErrorCode.{ErrorCode}
 use Rattle.snl_say.specs.declared.answers.ErrorCode.TheVariants.{ParseError, InvalidRequest, MethodNotFound, InvalidParams, ServerNotInitialized}
 use Rattle.snl_hear.specs.Ids.{IsSoundId, is_id}
 use Rattle.snl_hear.specs.Json.{json_in}
 use Rattle.snl_hear.specs.Sound.{IsSound, IsSoundNumber, IsSoundPlace}
+use Rattle.snl_hear.proofs.Evaluated.{sound_by_evaluation}
 use Rattle.snl_hear.proofs.ReadBack.{reads_back}
 use Rattle.snl_hear.proofs.SoundPlaces.{ascii, range_sound}
 
@@ -51,53 +52,9 @@ null_answer id h = answer_back id null h tt (omega arith)
 
 -- ---- the answer to `initialize`
 
-encoding_sound : (encoding : Encoding) → IsUtf8 (encoding_name encoding)
-encoding_sound Utf8 = ascii (codes "utf-8") refl
-encoding_sound Utf16 = ascii (codes "utf-16") refl
-
-sync_sound : IsSound sync_data
-sync_sound = (
-  ascii (codes "change") refl,
-  omega arith,
-  (refl, tt),
-  (ascii (codes "openClose") refl, tt, tt, tt),
-)
-
-capabilities_sound : (encoding : Encoding) → IsSound (capabilities_data encoding)
-capabilities_sound encoding = (
-  ascii (codes "definitionProvider") refl,
-  tt,
-  (refl, (refl, (refl, (refl, tt)))),
-  (
-    ascii (codes "documentSymbolProvider") refl,
-    tt,
-    (refl, (refl, (refl, tt))),
-    (
-      ascii (codes "hoverProvider") refl,
-      tt,
-      (refl, (refl, tt)),
-      (
-        ascii (codes "positionEncoding") refl,
-        encoding_sound encoding,
-        (refl, tt),
-        (ascii (codes "textDocumentSync") refl, sync_sound, tt, tt),
-      ),
-    ),
-  ),
-)
-
 initialized_sound : (encoding : Encoding) → IsSound (initialized_data encoding)
-initialized_sound encoding = (
-  ascii (codes "capabilities") refl,
-  capabilities_sound encoding,
-  (refl, tt),
-  (
-    ascii (codes "serverInfo") refl,
-    (ascii (codes "name") refl, ascii (codes "snl_lsp") refl, tt, tt),
-    tt,
-    tt,
-  ),
-)
+initialized_sound Utf8 = sound_by_evaluation (initialized_data Utf8) refl
+initialized_sound Utf16 = sound_by_evaluation (initialized_data Utf16) refl
 
 initialized_shallow : (encoding : Encoding) → depth (initialized_data encoding) ≤ 126
 initialized_shallow encoding = omega arith

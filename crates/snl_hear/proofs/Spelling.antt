@@ -21,8 +21,8 @@ request_heard id method params asked is (initialize Utf8) = with_id id asked is
 request_heard id method params asked is (initialize Utf16) = with_id id asked is
 request_heard id method params asked is shutdown = with_id id asked is
 request_heard id method params asked is (symbols uri) = with_id id asked is
-request_heard id method params asked is (definition at) = with_id id asked is
-request_heard id method params asked is (hover at) = with_id id asked is
+request_heard id method params asked is (definition uri place) = with_id id asked is
+request_heard id method params asked is (hover uri place) = with_id id asked is
 
 change_heard : (c : Changed) → change_in (change_data c) ≡ Some c
 change_heard (Whole text) = refl

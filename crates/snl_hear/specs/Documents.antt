@@ -3,15 +3,6 @@ use Rattle.std.specs.Prelude.{ℕ, List, Option, codes, option_and_then, option_
 use Rattle.serde_json.specs.Data.{Data}
 use Rattle.serde_json.specs.Find.{as_number, as_str, as_u64, get}
 use Rattle.snl_place.specs.declared.places.Place.{Place}
-use Rattle.snl_hear.specs.declared.documents.DocumentPlace.{DocumentPlace}
-
--- A document and a place in it, with the bytes of its URI.
-pub record Located : Type 0 where
-  pub uri : List ℕ
-  pub place : Place
-
-abbrev pub located_of : DocumentPlace → Located
-located_of at = record { uri = at.uri.now; place = at.place }
 
 -- A member that is an integer of 64 bits, from 0 on.
 abbrev pub number_at : List ℕ → Data → Option ℕ
@@ -49,10 +40,3 @@ text_in params = option_and_then (string_at (codes "text")) (document_in params)
 -- `{"position": PLACE}`
 abbrev pub position_in : Option Data → Option Place
 position_in params = option_and_then place_in (option_and_then (get (codes "position")) params)
-
--- `{"textDocument": {"uri": URI}, "position": PLACE}`
-abbrev pub located_in : Option Data → Option Located
-located_in params =
-    option_and_then (λ uri. option_map (λ place. record { uri = uri; place = place })
-    (position_in params))
-    (uri_in params)

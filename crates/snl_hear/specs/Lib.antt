@@ -4,6 +4,7 @@ pub mod Heard
 pub mod Ids
 pub mod Json
 pub mod Notifications
+pub mod RequestLaws
 pub mod Requests
 pub mod Sound
 pub mod Spelled

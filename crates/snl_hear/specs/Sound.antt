@@ -5,6 +5,7 @@ use Rattle.std.specs.Ordering.{nat_cmp}
 use Rattle.std.specs.declared.cmp.Ordering.TheVariants.{Greater}
 use Rattle.serde_json.specs.Data.{Num, unsigned, negative, float, Data, null, boolean, number, string, array, object, Items, no_items, item, Members, no_members, member}
 use Rattle.snl_place.specs.declared.places.Place.{Place}
+use Rattle.snl_say.specs.Answered.{Answered, Nothing, Location, Hover, Symbols}
 use Rattle.snl_say.specs.Publish.{Found}
 use Rattle.snl_say.specs.Symbols.{SymbolFound}
 
@@ -70,3 +71,10 @@ pub record IsSoundSymbol (s : SymbolFound) : Type 0 where
 abbrev pub AreSoundSymbols : List SymbolFound → Type 0
 AreSoundSymbols [] = ⊤
 AreSoundSymbols (s ∷ ss) = IsSoundSymbol s × AreSoundSymbols ss
+
+abbrev pub IsSoundAnswer : Answered → Type 0
+IsSoundAnswer Nothing = ⊤
+IsSoundAnswer (Location start stop) = IsSoundPlace start × IsSoundPlace stop
+IsSoundAnswer (Hover contents start stop) =
+    IsUtf8 contents × IsSoundPlace start × IsSoundPlace stop
+IsSoundAnswer (Symbols symbols) = AreSoundSymbols symbols

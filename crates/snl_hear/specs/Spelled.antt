@@ -4,12 +4,12 @@ use Rattle.std.specs.Prelude.{ℕ, List, [], ◌∷◌, Option, codes}
 use Rattle.serde_json.specs.Data.{Data, null, object, string, array, Items, no_items, item, no_members, member}
 use Rattle.snl_place.specs.declared.places.Encoding.{Encoding}
 use Rattle.snl_place.specs.declared.places.Encoding.TheVariants.{Utf8, Utf16}
+use Rattle.snl_place.specs.declared.places.Place.{Place}
 use Rattle.snl_say.specs.Places.{place_data, range_data}
 use Rattle.snl_say.specs.Publish.{version_data}
 use Rattle.snl_hear.specs.Changes.{Changed, Whole, Part}
-use Rattle.snl_hear.specs.Documents.{Located}
 use Rattle.snl_hear.specs.Notifications.{Noted, Initialized, Exit, DidOpen, DidChange, DidClose}
-use Rattle.snl_hear.specs.Requests.{Asked, Initialize, Shutdown, DocumentSymbol, Definition, Hover}
+use Rattle.snl_hear.specs.Requests.{Asked, Initialize, Shutdown, OfDocument, Symbols, Definition, Hover}
 
 -- ---- parameters
 
@@ -31,10 +31,10 @@ document_data uri =
     object (member (codes "textDocument") (object (member (codes "uri") (string uri) no_members))
     no_members)
 
-abbrev pub located_data : Located → Data
-located_data at =
-    object (member (codes "position") (place_data at.place)
-    (member (codes "textDocument") (object (member (codes "uri") (string at.uri) no_members))
+abbrev pub located_data : (uri : List ℕ) → Place → Data
+located_data uri place =
+    object (member (codes "position") (place_data place)
+    (member (codes "textDocument") (object (member (codes "uri") (string uri) no_members))
     no_members))
 
 abbrev pub opened_data : (uri : List ℕ) → (version : Option ℕ) → (text : List ℕ) → Data
@@ -82,10 +82,12 @@ pub data IsAsked : (method : List ℕ) → (params : Data) → Asked → Type 0 
       IsAsked (codes "initialize") (capabilities_data encoding) (Initialize encoding)
   shutdown : IsAsked (codes "shutdown") null Shutdown
   symbols : (uri : List ℕ) →
-      IsAsked (codes "textDocument/documentSymbol") (document_data uri) (DocumentSymbol uri)
-  definition : (at : Located) →
-      IsAsked (codes "textDocument/definition") (located_data at) (Definition at)
-  hover : (at : Located) → IsAsked (codes "textDocument/hover") (located_data at) (Hover at)
+      IsAsked (codes "textDocument/documentSymbol") (document_data uri) (OfDocument uri Symbols)
+  definition : (uri : List ℕ) (place : Place) →
+      IsAsked (codes "textDocument/definition") (located_data uri place)
+      (OfDocument uri (Definition place))
+  hover : (uri : List ℕ) (place : Place) →
+      IsAsked (codes "textDocument/hover") (located_data uri place) (OfDocument uri (Hover place))
 
 pub data IsTold : (method : List ℕ) → (params : Data) → Noted → Type 0 where
   initialized : IsTold (codes "initialized") (object no_members) Initialized

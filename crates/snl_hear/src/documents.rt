@@ -4,19 +4,12 @@
 
 ghost use Rattle.std.specs.Prelude.{◌≡◌, option_and_then, option_map};
 ghost use Rattle.serde_json.specs.Find.{get};
-ghost use Rattle.snl_hear.specs.Documents.{document_in, located_in, located_of, number_at, place_in, string_at, text_in, uri_in, version_in};
+ghost use Rattle.snl_hear.specs.Documents.{document_in, number_at, place_in, position_in, string_at, text_in, uri_in, version_in};
 ghost use Rattle.snl_hear.specs.Values.{seen};
 
 use crate::values::{member_of, string_in, unsigned_of};
 use json::Value;
 use snl_place::Place;
-
-/// A document and a place in it, as the client names them. The text need not have such a place.
-#[derive(Clone, Copy)]
-pub struct DocumentPlace<'a> {
-    pub uri: &'a str,
-    pub place: Place,
-}
 
 fn number_at(value: &Value<'_>, key: &str) -> Option<u64>
     ensures { result ≡ number_at key.now (seen value.now) }
@@ -73,12 +66,9 @@ pub fn text_in<'a>(params: Option<&Value<'a>>) -> Option<&'a str>
     string_at(document_in(params)?, "text")
 }
 
-/// `{"textDocument": {"uri": URI}, "position": PLACE}`
-pub fn located_in<'a>(params: Option<&Value<'a>>) -> Option<DocumentPlace<'a>>
-    ensures { option_map (λ at. located_of at) result
-        ≡ located_in (option_map (λ v. seen v.now) params.entry) }
+/// `{"position": PLACE}`. The text of the document need not have such a place.
+pub fn position_in(params: Option<&Value<'_>>) -> Option<Place>
+    ensures { result ≡ position_in (option_map (λ v. seen v.now) params.entry) }
 {
-    let uri = uri_in(params)?;
-    let place = place_in(member_of(params?, "position")?)?;
-    Some(DocumentPlace { uri, place })
+    place_in(member_of(params?, "position")?)
 }

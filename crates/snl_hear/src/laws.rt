@@ -9,6 +9,7 @@ ghost use Rattle.snl_place.specs.declared.places.Encoding.{Encoding};
 ghost use Rattle.snl_place.specs.declared.places.Place.{Place};
 ghost use Rattle.snl_say.specs.declared.severity.Severity.{Severity};
 ghost use Rattle.snl_say.specs.declared.answers.ErrorCode.{ErrorCode};
+ghost use Rattle.snl_say.specs.Answered.{Answered, answered_data, answered_text};
 ghost use Rattle.snl_say.specs.Answers.{error_data, error_text, hover_data, hover_text, initialize_data, initialize_text, location_data, location_text, null_data, null_text};
 ghost use Rattle.snl_say.specs.Notices.{message_data, message_text};
 ghost use Rattle.snl_say.specs.Publish.{Found, publish_data, publish_text};
@@ -18,12 +19,12 @@ ghost use Rattle.snl_hear.specs.Ids.{IsSoundId, is_id};
 ghost use Rattle.snl_hear.specs.Json.{json_in};
 ghost use Rattle.snl_hear.specs.Notifications.{Noted};
 ghost use Rattle.snl_hear.specs.Requests.{Asked};
-ghost use Rattle.snl_hear.specs.Sound.{AreSoundFound, AreSoundSymbols, IsSound, IsSoundPlace, IsSoundVersion};
+ghost use Rattle.snl_hear.specs.Sound.{AreSoundFound, AreSoundSymbols, IsSound, IsSoundAnswer, IsSoundPlace, IsSoundVersion};
 ghost use Rattle.snl_hear.specs.Spelled.{IsAsked, IsTold, notification_data, request_data};
 
 use snl_say::{
-    error_is_json, hover_is_json, initialize_is_json, location_is_json, message_is_json,
-    null_is_json, publish_is_json, symbols_are_json,
+    answers_are_json, error_is_json, hover_is_json, initialize_is_json, location_is_json,
+    message_is_json, null_is_json, publish_is_json, symbols_are_json,
 };
 
 /// A request is heard as what it asks, with its id, as a client writes it.
@@ -60,8 +61,9 @@ pub fn values_read_back()
 {}
 
 /// An answer with an id that was heard is the value that it is to be, to whoever reads it: so the
-/// client finds its id in it. Strings are UTF-8, and the depth of a symbol is 61 at most. The last
-/// clause is of an error where no id is known.
+/// client finds its id in it. Strings are UTF-8, and the depth of a symbol is 61 at most. `answer`
+/// is of a request on a document, whatever the shape of its answer is, and the last clause of an
+/// error where no id is known.
 pub fn answers_read_back()
     ensures null_answer { (id : Data) → IsSoundId id
         → json_in (null_text id) ≡ Some (null_data id) }
@@ -76,6 +78,9 @@ pub fn answers_read_back()
     ensures hover { (id : Data) (contents : List ℕ) (start stop : Place) → IsSoundId id
         → IsUtf8 contents → IsSoundPlace start → IsSoundPlace stop
         → json_in (hover_text id contents start stop) ≡ Some (hover_data id contents start stop) }
+    ensures answer { (id : Data) (uri : List ℕ) (answered : Answered) → IsSoundId id
+        → IsUtf8 uri → IsSoundAnswer answered
+        → json_in (answered_text id uri answered) ≡ Some (answered_data id uri answered) }
     ensures error { (id : Data) (code : ErrorCode) → IsSoundId id
         → json_in (error_text id code) ≡ Some (error_data id code) }
     ensures error_alone { (code : ErrorCode)
@@ -86,6 +91,7 @@ pub fn answers_read_back()
     symbols_are_json();
     location_is_json();
     hover_is_json();
+    answers_are_json();
     error_is_json();
 }
 

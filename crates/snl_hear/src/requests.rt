@@ -3,27 +3,35 @@
 //! Knows nothing of its id, and of what is answered.
 
 ghost use Rattle.std.specs.Prelude.{◌≡◌, option_map};
-ghost use Rattle.snl_hear.specs.Requests.{asked_in, asked_of, encoding_in, method_named, offered_in, offers_utf_8, says_utf_8};
+ghost use Rattle.snl_hear.specs.Requests.{asked_in, asked_of, asked_of_document, encoding_in, method_named, offered_in, offers_utf_8, query_by, query_of, says_utf_8};
 ghost use Rattle.snl_hear.specs.Values.{seen, seen_all};
 
-use crate::documents::{DocumentPlace, located_in, uri_in};
+use crate::documents::{position_in, uri_in};
 use crate::values::{items_of, member_of, string_in};
 use json::Value;
-use snl_place::Encoding;
+use snl_place::{Encoding, Place};
 
-/// What a request asks. Its places count their lines in the encoding that was agreed on.
+/// What is asked of a document. A place need not be one of its text, and counts the characters of
+/// its line in the encoding that was agreed on.
+#[derive(Clone, Copy, Debug, PartialEq, Eq)]
+pub enum Question {
+    /// `textDocument/documentSymbol`
+    Symbols,
+    /// `textDocument/definition`
+    Definition(Place),
+    /// `textDocument/hover`
+    Hover(Place),
+}
+
+/// What a request asks.
 #[derive(Clone, Copy)]
 pub enum Request<'a> {
     /// `initialize`: places are to be counted so, by what the client offers.
     Initialize(Encoding),
     /// `shutdown`
     Shutdown,
-    /// `textDocument/documentSymbol`
-    DocumentSymbol { uri: &'a str },
-    /// `textDocument/definition`
-    Definition(DocumentPlace<'a>),
-    /// `textDocument/hover`
-    Hover(DocumentPlace<'a>),
+    /// A question on the document of this URI.
+    OfDocument { uri: &'a str, question: Question },
     /// One of these, with parameters that do not fit it.
     InvalidParams,
     /// Any other method.
@@ -35,10 +43,16 @@ pub enum Request<'a> {
 enum RequestMethod {
     Initialize,
     Shutdown,
-    DocumentSymbol,
+    OfDocument(DocumentMethod),
+    Other,
+}
+
+/// Those of questions on a document.
+#[derive(Clone, Copy)]
+enum DocumentMethod {
+    Symbols,
     Definition,
     Hover,
-    Other,
 }
 
 fn method_named(name: &str) -> RequestMethod
@@ -47,9 +61,9 @@ fn method_named(name: &str) -> RequestMethod
     match name {
         "initialize" => RequestMethod::Initialize,
         "shutdown" => RequestMethod::Shutdown,
-        "textDocument/documentSymbol" => RequestMethod::DocumentSymbol,
-        "textDocument/definition" => RequestMethod::Definition,
-        "textDocument/hover" => RequestMethod::Hover,
+        "textDocument/documentSymbol" => RequestMethod::OfDocument(DocumentMethod::Symbols),
+        "textDocument/definition" => RequestMethod::OfDocument(DocumentMethod::Definition),
+        "textDocument/hover" => RequestMethod::OfDocument(DocumentMethod::Hover),
         _ => RequestMethod::Other,
     }
 }
@@ -93,6 +107,28 @@ fn encoding_in(params: Option<&Value<'_>>) -> Encoding
     }
 }
 
+/// The question of this method, by its parameters.
+fn question_in(method: DocumentMethod, params: Option<&Value<'_>>) -> Option<Question>
+    ensures { option_map (λ question. query_of question) result
+        ≡ query_by method (option_map (λ v. seen v.now) params.entry) }
+{
+    match method {
+        DocumentMethod::Symbols => Some(Question::Symbols),
+        DocumentMethod::Definition => Some(Question::Definition(position_in(params)?)),
+        DocumentMethod::Hover => Some(Question::Hover(position_in(params)?)),
+    }
+}
+
+/// What this method asks of the document that the parameters name.
+fn document_asked<'a>(method: DocumentMethod, params: Option<&Value<'a>>) -> Option<Request<'a>>
+    ensures { option_map (λ request. asked_of request) result
+        ≡ asked_of_document method (option_map (λ v. seen v.now) params.entry) }
+{
+    let uri = uri_in(params)?;
+    let question = question_in(method, params)?;
+    Some(Request::OfDocument { uri, question })
+}
+
 /// What a request of this method asks.
 pub fn request_in<'a>(method: &str, params: Option<&Value<'a>>) -> Request<'a>
     ensures { asked_of result ≡ asked_in method.now (option_map (λ v. seen v.now) params.entry) }
@@ -100,16 +136,8 @@ pub fn request_in<'a>(method: &str, params: Option<&Value<'a>>) -> Request<'a>
     match method_named(method) {
         RequestMethod::Initialize => Request::Initialize(encoding_in(params)),
         RequestMethod::Shutdown => Request::Shutdown,
-        RequestMethod::DocumentSymbol => match uri_in(params) {
-            Some(uri) => Request::DocumentSymbol { uri },
-            None => Request::InvalidParams,
-        },
-        RequestMethod::Definition => match located_in(params) {
-            Some(located) => Request::Definition(located),
-            None => Request::InvalidParams,
-        },
-        RequestMethod::Hover => match located_in(params) {
-            Some(located) => Request::Hover(located),
+        RequestMethod::OfDocument(asked) => match document_asked(asked, params) {
+            Some(request) => request,
             None => Request::InvalidParams,
         },
         RequestMethod::Other => Request::MethodNotFound,

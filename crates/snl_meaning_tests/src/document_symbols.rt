@@ -1,7 +1,7 @@
 //! The symbols of a text.
 
+use snl_questions::{DocumentSymbol, DocumentSymbolKind, symbols};
 use snl_session::{Session, Span};
-use snl_symbols::{DocumentSymbol, DocumentSymbolKind, symbols};
 use std::process::Abort;
 use std::test::Fail;
 

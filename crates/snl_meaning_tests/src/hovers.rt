@@ -1,6 +1,6 @@
 //! What a hover says of the names of a text.
 
-use snl_hover::{Hover, hover_at};
+use snl_questions::{Hover, hover_at};
 use snl_session::Session;
 use std::alloc::{AllocError, Global};
 use std::process::Abort;

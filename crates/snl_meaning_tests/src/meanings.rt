@@ -1,6 +1,6 @@
 //! What names of a text mean.
 
-use snl_meaning::{meaning_near, span_bytes};
+use snl_questions::{meaning_near, span_bytes};
 use snl_session::Session;
 use std::process::Abort;
 use std::test::Fail;

@@ -7,3 +7,4 @@ pub mod Places
 pub mod Firsts
 pub mod InState
 pub mod Meant
+pub mod References

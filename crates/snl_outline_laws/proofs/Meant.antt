@@ -45,12 +45,12 @@ use Rattle.snl_scope.specs.Places.{enclosing_set, is_set_begin}
 use Rattle.snl_kept.specs.Checks.{outlines_in}
 use Rattle.snl_kept.specs.Program.{item_tokens, tree_in}
 use Rattle.snl_kept.specs.TokenLaws.{read_tree}
-use Rattle.snl_asked.specs.Tokens.{has_byte}
-use Rattle.snl_item_tokens.specs.Items.{span_at, span_of}
-use Rattle.snl_item_tokens.specs.ItemTokensLaws.{outline_by}
-use Rattle.snl_meaning.specs.declared.items.TokenPlace.{TokenPlace}
-use Rattle.snl_meaning.specs.declared.meanings.Meaning.{Meaning}
-use Rattle.snl_meaning.specs.Meanings.{clauses_name, declaration_named, declares_at, is_name_of, meaning_between, meaning_by, meaning_from, meaning_of, meant_as_own_name, meant_at, meant_by_local, meant_by_occurrence, meant_by_outline, meant_by_tokens, meant_inside, number_at, number_if_at, occurrence_at, place_of, span_bytes}
+use Rattle.snl_questions.specs.Tokens.{has_byte}
+use Rattle.snl_questions.specs.Items.{span_at, span_of}
+use Rattle.snl_questions.specs.ItemTokensLaws.{outline_by}
+use Rattle.snl_questions.specs.declared.meanings.items.TokenPlace.{TokenPlace}
+use Rattle.snl_questions.specs.declared.meanings.near.Meaning.{Meaning}
+use Rattle.snl_questions.specs.Meanings.{clauses_name, declaration_named, declares_at, is_name_of, meaning_between, meaning_by, meaning_from, meaning_of, meant_as_own_name, meant_at, meant_by_local, meant_by_occurrence, meant_by_outline, meant_by_tokens, meant_inside, number_at, number_if_at, occurrence_at, place_of, span_bytes}
 use Rattle.snl_outline_laws.specs.Meant.{HasTokenAt}
 use Rattle.snl_outline_laws.proofs.Firsts.{first_resolves, found_by_place, found_in_state}
 use Rattle.snl_outline_laws.proofs.InState.{Occurs, by_members, found_alone, means_first, said_by_members}

@@ -43,11 +43,11 @@ use Rattle.snl_kept.specs.Checks.{outlines_in}
 use Rattle.snl_kept.specs.Program.{item_tokens, items_of, program_item, tree_in}
 use Rattle.snl_kept.specs.Tables.{tables_in}
 use Rattle.snl_kept.specs.TokenLaws.{read_tree}
-use Rattle.snl_item_tokens.specs.Items.{span_at, span_of}
-use Rattle.snl_item_tokens.specs.ItemTokensLaws.{outline_at, outline_by}
-use Rattle.snl_symbols.specs.declared.document_symbol.DocumentSymbolKind.{DocumentSymbolKind}
-use Rattle.snl_symbols.specs.declared.document_symbol.DocumentSymbolKind.TheVariants as kinds
-use Rattle.snl_symbols.specs.Symbols.{declared_kind, kind_by_opening, own_kind, symbols_of}
+use Rattle.snl_questions.specs.Items.{span_at, span_of}
+use Rattle.snl_questions.specs.ItemTokensLaws.{outline_at, outline_by}
+use Rattle.snl_questions.specs.declared.document_symbols.symbol.DocumentSymbolKind.{DocumentSymbolKind}
+use Rattle.snl_questions.specs.declared.document_symbols.symbol.DocumentSymbolKind.TheVariants as kinds
+use Rattle.snl_questions.specs.Symbols.{declared_kind, kind_by_opening, own_kind, symbols_of}
 use Rattle.snl_outline_laws.specs.Outlined.{HasSymbol}
 use Rattle.snl_outline_laws.proofs.Lists.{get_here}
 use Rattle.snl_outline_laws.proofs.Origins.{HasOrigin, all_originate, declares}

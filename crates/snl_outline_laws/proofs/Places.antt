@@ -6,8 +6,8 @@ use Rattle.snl_facts.specs.Each.{EachTwo, each_got}
 use Rattle.snl_facts.specs.Positions.{position_cons}
 use Rattle.snl_lex.specs.declared.piece.Piece.{Piece}
 use Rattle.snl_kept.specs.TokenLaws.{AllBefore, Before, InARow}
-use Rattle.snl_asked.specs.Tokens.{has_byte}
-use Rattle.snl_meaning.specs.Meanings.{place_by, place_from}
+use Rattle.snl_questions.specs.Tokens.{has_byte}
+use Rattle.snl_questions.specs.Meanings.{place_by, place_from}
 
 module _ (offset : ℕ) (token : Piece) (byte : has_byte offset token ≡ true) where
   -- a token before it hasn't

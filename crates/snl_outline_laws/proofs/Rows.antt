@@ -15,8 +15,8 @@ use Rattle.snl_tables.specs.declared.rows.Span.{Span}
 use Rattle.snl_kept.specs.Parts.{EndsWithin}
 use Rattle.snl_kept.specs.Program.{item_tokens}
 use Rattle.snl_kept.specs.TokenLaws.{AllBefore, InARow, members_apart, tokens_apart}
-use Rattle.snl_item_tokens.specs.Items.{start_of, stop_of}
-use Rattle.snl_symbols.specs.Symbols.{span_between}
+use Rattle.snl_questions.specs.Items.{start_of, stop_of}
+use Rattle.snl_questions.specs.Symbols.{span_between}
 use Rattle.snl_outline_laws.proofs.Lists.{get_here}
 
 pub record AreInARow (text : List ℕ) : Type 0 where

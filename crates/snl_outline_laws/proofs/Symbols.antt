@@ -13,10 +13,10 @@ use Rattle.snl_scope.specs.Places.{stands_in}
 use Rattle.snl_tables.specs.declared.rows.Span.{Span}
 use Rattle.snl_kept.specs.Checks.{outlines_in}
 use Rattle.snl_kept.specs.Program.{item_tokens}
-use Rattle.snl_item_tokens.specs.Items.{span_at}
-use Rattle.snl_symbols.specs.declared.document_symbol.DocumentSymbol.{DocumentSymbol}
-use Rattle.snl_symbols.specs.declared.document_symbol.DocumentSymbolKind.{DocumentSymbolKind}
-use Rattle.snl_symbols.specs.Symbols.{declared_kind, declared_symbol, depth_of, extent_of, item_symbols, last_within, own_kind, own_symbol, symbol_with, symbols_at, symbols_before, symbols_of}
+use Rattle.snl_questions.specs.Items.{span_at}
+use Rattle.snl_questions.specs.declared.document_symbols.symbol.DocumentSymbol.{DocumentSymbol}
+use Rattle.snl_questions.specs.declared.document_symbols.symbol.DocumentSymbolKind.{DocumentSymbolKind}
+use Rattle.snl_questions.specs.Symbols.{declared_kind, declared_symbol, depth_of, extent_of, item_symbols, last_within, own_kind, own_symbol, symbol_with, symbols_at, symbols_before, symbols_of}
 use Rattle.snl_outline_laws.specs.Outlined.{HasSymbol}
 use Rattle.snl_outline_laws.proofs.Lists.{contains_first, contains_made}
 use Rattle.snl_outline_laws.proofs.Rows.{AreInARow, span_there}

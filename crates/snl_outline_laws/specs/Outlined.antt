@@ -1,8 +1,8 @@
 -- What is in an outline.
 use Rattle.std.specs.Prelude.{◌≡◌, List, Contains}
 use Rattle.snl_tables.specs.declared.rows.Span.{Span}
-use Rattle.snl_symbols.specs.declared.document_symbol.DocumentSymbol.{DocumentSymbol}
-use Rattle.snl_symbols.specs.declared.document_symbol.DocumentSymbolKind.{DocumentSymbolKind}
+use Rattle.snl_questions.specs.declared.document_symbols.symbol.DocumentSymbol.{DocumentSymbol}
+use Rattle.snl_questions.specs.declared.document_symbols.symbol.DocumentSymbolKind.{DocumentSymbolKind}
 
 -- A symbol of this kind, with the name at this span, is among them.
 abbrev pub HasSymbol : List DocumentSymbol → DocumentSymbolKind → (name : Span) → Type 0

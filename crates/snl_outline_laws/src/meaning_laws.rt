@@ -1,10 +1,10 @@
 //! What the name of a declaration means.
 
 ghost use Rattle.std.specs.Prelude.{◌≡◌, ◌||◌, ℕ, IsSomeAnd, List, Some, true};
-ghost use Rattle.snl_item_tokens.specs.Items.{span_of};
+ghost use Rattle.snl_questions.specs.Items.{span_of};
 ghost use Rattle.snl_kept.specs.Checks.{outlines_in};
 ghost use Rattle.snl_lex.specs.declared.piece.Piece.{Piece};
-ghost use Rattle.snl_meaning.specs.Meanings.{meaning_of};
+ghost use Rattle.snl_questions.specs.Meanings.{meaning_of};
 ghost use Rattle.snl_outline_laws.specs.Meant.{HasTokenAt};
 ghost use Rattle.snl_scope.specs.declared.facts.Declaration.{Declaration};
 ghost use Rattle.snl_scope.specs.Flags.{is_first_at};

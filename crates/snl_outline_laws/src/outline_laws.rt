@@ -3,8 +3,8 @@
 ghost use Rattle.std.specs.Prelude.{ℕ, All, List};
 ghost use Rattle.snl_kept.specs.Tables.{tables_in};
 ghost use Rattle.snl_outline_laws.specs.Outlined.{HasSymbol};
-ghost use Rattle.snl_symbols.specs.declared.document_symbol.DocumentSymbolKind.TheVariants.{EventFlag, State, StateSet};
-ghost use Rattle.snl_symbols.specs.Symbols.{symbols_of};
+ghost use Rattle.snl_questions.specs.declared.document_symbols.symbol.DocumentSymbolKind.TheVariants.{EventFlag, State, StateSet};
+ghost use Rattle.snl_questions.specs.Symbols.{symbols_of};
 
 use snl_cut::ends_in_order;
 use snl_grammar::Tokens;

@@ -15,7 +15,7 @@ use Rattle.snl_lex.specs.Alphabet.{is_white}
 use Rattle.snl_lex.specs.Classes.{HasItsClass}
 use Rattle.snl_lex.specs.PieceList.{is_token_class}
 use Rattle.snl_lex.specs.Pieces.{first_piece, is_token, piece_end, pieces_of}
-use Rattle.snl_asked.specs.Tokens.{has_byte, token_at}
+use Rattle.snl_questions.specs.Tokens.{has_byte, token_at}
 use Rattle.snl_kept.specs.declared.found.findings.Diagnostic.{Diagnostic}
 use Rattle.snl_place.specs.Places.{CutsNoLineEnd}
 use Rattle.snl_shown.specs.Found.{extent}

@@ -1,7 +1,7 @@
 //! The range of a diagnostic leads back to its token.
 
 ghost use Rattle.std.specs.Prelude.{◌≡◌, ◌⊎◌, ℕ, List, Some, IsUtf8};
-ghost use Rattle.snl_asked.specs.Tokens.{token_at};
+ghost use Rattle.snl_questions.specs.Tokens.{token_at};
 ghost use Rattle.snl_kept.specs.declared.found.findings.Diagnostic.{Diagnostic};
 ghost use Rattle.snl_lex.specs.declared.piece.Piece.{Piece};
 ghost use Rattle.snl_lex.specs.Pieces.{piece_end};

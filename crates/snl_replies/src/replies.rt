@@ -2,15 +2,15 @@
 //! Knows nothing of documents, and of what is answered to which message.
 
 ghost use Rattle.std.specs.Prelude.{◌≡◌, ◌++◌, OnOk, map};
+ghost use Rattle.snl_say.specs.Answered.{answered_of};
 ghost use Rattle.snl_say.specs.Answers.{id_data, some_id_data};
 ghost use Rattle.snl_say.specs.Publish.{found_of};
-ghost use Rattle.snl_say.specs.Symbols.{symbol_of};
-ghost use Rattle.snl_replies.specs.Replies.{AnswerError, AnswerHover, AnswerInitialize, AnswerNull, AnswerSymbols, Notice, framed_location, framed_publish, framed_reply};
+ghost use Rattle.snl_replies.specs.Replies.{AnswerError, AnswerInitialize, AnswerNull, Notice, framed_answer, framed_publish, framed_reply};
 
-use snl_place::{Encoding, Place};
+use snl_place::Encoding;
 use snl_say::{
-    ErrorCode, Id, Severity, Shown, ShownSymbol, WrittenItems, frame_from, put_error, put_hover,
-    put_initialize, put_location, put_message, put_null, put_publish, put_symbols,
+    Answer, ErrorCode, Id, Severity, Shown, WrittenItems, frame_from, put_answer, put_error,
+    put_initialize, put_message, put_null, put_publish,
 };
 use std::alloc::AllocError;
 
@@ -72,7 +72,7 @@ pub fn say_initialize(said: &mut Vec<u8>, id: Id<'_>, encoding: Encoding) -> Res
     frame_from(said, begin)
 }
 
-/// Answers that there is nothing to tell.
+/// Answers `null`, of no document.
 #[tactic(auto, unfolding(crate::specs::Replies::framed_reply))]
 pub fn say_null(said: &mut Vec<u8>, id: Id<'_>) -> Result<(), AllocError>
     ensures { OnOk result (said.new.items ≡ said.old.items
@@ -83,51 +83,18 @@ pub fn say_null(said: &mut Vec<u8>, id: Id<'_>) -> Result<(), AllocError>
     frame_from(said, begin)
 }
 
-/// Answers with symbols.
-#[tactic(auto, unfolding(crate::specs::Replies::framed_reply))]
-pub fn say_symbols(
-    said: &mut Vec<u8>,
-    id: Id<'_>,
-    symbols: &[ShownSymbol<'_>],
-) -> Result<(), AllocError>
-    ensures { OnOk result (said.new.items ≡ said.old.items
-        ++ framed_reply (AnswerSymbols (id_data id.entry) (map (λ s. symbol_of s) symbols.now))) }
-{
-    let begin = said.len();
-    put_symbols(said, id, symbols)?;
-    frame_from(said, begin)
-}
-
-/// Answers with a part of a document.
-#[tactic(auto, unfolding(crate::specs::Replies::framed_location))]
-pub fn say_location(
+/// Answers a question on a document, whose URI this is as a string of JSON.
+#[tactic(auto, unfolding(crate::specs::Replies::framed_answer))]
+pub fn say_answer(
     said: &mut Vec<u8>,
     id: Id<'_>,
     quoted_uri: &[u8],
-    start: Place,
-    stop: Place,
+    answer: &Answer<'_>,
 ) -> Result<(), AllocError>
     ensures { OnOk result (said.new.items ≡ said.old.items
-        ++ framed_location (id_data id.entry) quoted_uri.now start stop) }
+        ++ framed_answer (id_data id.entry) quoted_uri.now (answered_of answer.now)) }
 {
     let begin = said.len();
-    put_location(said, id, quoted_uri, start, stop)?;
-    frame_from(said, begin)
-}
-
-/// Answers with what is told of a name, which is between two places.
-#[tactic(auto, unfolding(crate::specs::Replies::framed_reply))]
-pub fn say_hover(
-    said: &mut Vec<u8>,
-    id: Id<'_>,
-    contents: &[u8],
-    start: Place,
-    stop: Place,
-) -> Result<(), AllocError>
-    ensures { OnOk result (said.new.items ≡ said.old.items
-        ++ framed_reply (AnswerHover (id_data id.entry) contents.now start stop)) }
-{
-    let begin = said.len();
-    put_hover(said, id, contents, start, stop)?;
+    put_answer(said, id, quoted_uri, answer)?;
     frame_from(said, begin)
 }

@@ -1,4 +1,5 @@
 pub mod AnswerText
+pub mod AnsweredText
 pub mod EscapeRuns
 pub mod ItemText
 pub mod Nesting

@@ -8,6 +8,7 @@ ghost use Rattle.snl_say.specs.declared.answers.ErrorCode.{ErrorCode};
 ghost use Rattle.snl_place.specs.declared.places.Encoding.{Encoding};
 ghost use Rattle.snl_place.specs.declared.places.Place.{Place};
 ghost use Rattle.snl_say.specs.declared.severity.Severity.{Severity};
+ghost use Rattle.snl_say.specs.Answered.{Answered, answered_data, answered_text};
 ghost use Rattle.snl_say.specs.Answers.{error_data, error_text, hover_data, hover_text, initialize_data, initialize_text, location_data, location_text, null_data, null_text};
 ghost use Rattle.snl_say.specs.Notices.{message_data, message_text};
 ghost use Rattle.snl_say.specs.Publish.{Found, publish_data, publish_text};
@@ -58,6 +59,12 @@ pub fn location_is_json()
 pub fn hover_is_json()
     ensures { (id : Data) (contents : List ℕ) (start stop : Place)
         → compact_text (hover_data id contents start stop) ≡ hover_text id contents start stop }
+{}
+
+/// The answer to a request on a document, whatever its shape is.
+pub fn answers_are_json()
+    ensures { (id : Data) (uri : List ℕ) (answered : Answered)
+        → compact_text (answered_data id uri answered) ≡ answered_text id uri answered }
 {}
 
 /// Whatever the depths of symbols are, each of them is there, in their order, and is in the last

@@ -7,10 +7,11 @@
 //!
 //! `diagnostics` publishes what is found in a document, of which `written` keeps what was written
 //! last, `notices` shows a message to the user,
-//! `answers` has the answers to requests but for those on documents, which are in `symbols`,
-//! `location` and `hover`. `frames` puts the header before a body.
+//! `answers` has the answers to requests but for those on documents: these are in `answer`, by their
+//! shapes, which are in `symbols`, `location` and `hover`. `frames` puts the header before a body.
 #![tactic(auto)]
 
+mod answer;
 mod answers;
 mod before;
 mod bytes;
@@ -26,17 +27,16 @@ mod severity;
 mod symbols;
 mod written;
 
+pub use answer::{Answer, put_answer};
 pub use answers::{ErrorCode, Id, put_error, put_initialize, put_null};
 pub use bytes::put_quoted;
 pub use diagnostics::{Shown, put_publish};
 pub use frames::frame_from;
-pub use hover::put_hover;
 pub use laws::{
-    error_is_json, hover_is_json, initialize_is_json, location_is_json, message_is_json,
-    null_is_json, publish_is_json, symbols_are_json, symbols_are_nested,
+    answers_are_json, error_is_json, hover_is_json, initialize_is_json, location_is_json,
+    message_is_json, null_is_json, publish_is_json, symbols_are_json, symbols_are_nested,
 };
-pub use location::put_location;
 pub use notices::put_message;
 pub use severity::Severity;
-pub use symbols::{ShownSymbol, SymbolKind, put_symbols};
+pub use symbols::{ShownSymbol, SymbolKind};
 pub use written::WrittenItems;

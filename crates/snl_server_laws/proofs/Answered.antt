@@ -5,76 +5,57 @@ use Rattle.std.specs.Option.{option_map_or, option_to_list}
 use Rattle.std.proofs.lemmas.List.Elements.{All-append, All-cons, All-head, All-nil, All-tail, filter_map-append}
 use Rattle.serde_json.specs.Data.{Data, null}
 use Rattle.snl_place.specs.declared.places.Encoding.{Encoding}
-use Rattle.snl_place.specs.declared.places.Place.{Place}
+use Rattle.snl_say.specs.Answered.{Answered, Nothing, Location, Hover, Symbols}
 use Rattle.snl_say.specs.declared.answers.ErrorCode.TheVariants as error
 use Rattle.snl_hear.specs.Heard.{Heard, NoJson, NoMessage, Response, Request, Notification}
 use Rattle.snl_hear.specs.Notifications.{Noted, Initialized, Exit, DidOpen, DidChange, DidClose, InvalidParams, Other}
-use Rattle.snl_hear.specs.Requests.{Asked, Initialize, Shutdown, DocumentSymbol, Definition, Hover, MethodNotFound}
+use Rattle.snl_hear.specs.Requests.{Asked, Initialize, Shutdown, OfDocument, MethodNotFound, Query}
 use Rattle.snl_hear.specs.Requests as asked
 use Rattle.snl_docs.specs.declared.phase.Phase.{Phase}
 use Rattle.snl_docs.specs.declared.phase.Phase.TheVariants.{New, Ready, Shut, Gone}
-use Rattle.snl_docs.specs.declared.question.Question.{Question}
-use Rattle.snl_docs.specs.declared.question.Question.TheVariants as question
-use Rattle.snl_docs.specs.Asked.{answer_by, answer_of, answer_on, hover_answer, location_answer}
-use Rattle.snl_docs.specs.Served.{Served, after, answer_first, answer_in, answer_ready, is_ready, replied, replies_to, told_by, told_note, told_of_lost}
+use Rattle.snl_docs.specs.Asked.{answer_by, answer_of, answer_on}
+use Rattle.snl_docs.specs.Served.{Served, after, answer_first, answer_in_phase, answer_ready, is_ready, replied, replies_to, told_by, told_note, told_of_lost}
 use Rattle.snl_document.specs.declared.standing.Standing.{Standing}
 use Rattle.snl_document.specs.declared.standing.Standing.TheVariants.{Checked, Large, Lost}
 use Rattle.snl_document.specs.Documents.{Doc, after_changes, document_of, lost, opened}
-use Rattle.snl_document.specs.Says.{NameTold, Says}
-use Rattle.snl_document.specs.Texts.{checked, standing}
+use Rattle.snl_document.specs.Says.{Says}
+use Rattle.snl_document.specs.Texts.{standing}
 use Rattle.snl_document.specs.Told.{notices, stays, told, told_after, told_of, told_of_all, told_of_named}
-use Rattle.snl_replies.specs.Replies.{Reply, AnswerError, AnswerNull}
+use Rattle.snl_replies.specs.Replies.{Reply, Answer, AnswerError}
 use Rattle.snl_turns.specs.Turns.{Turn, heard_at}
 use Rattle.snl_server_laws.specs.Answered.{answered_ids, asked_id, asked_ids, id_of, replied_to_all}
 
 -- ---- the answer to a request
 
-location_id : (id : Data) (uri : List ℕ) (places : Option (Place × Place)) →
-    id_of (location_answer id uri places) ≡ Some id
-location_id id uri None = refl
-location_id id uri (Some (start, stop)) = refl
+answered_id : (id : Data) (uri : List ℕ) (answered : Answered) →
+    id_of (Answer id uri answered) ≡ Some id
+answered_id id uri Nothing = refl
+answered_id id uri (Location start stop) = refl
+answered_id id uri (Hover contents start stop) = refl
+answered_id id uri (Symbols symbols) = refl
 
-hover_id : (id : Data) (told : Option NameTold) → id_of (hover_answer id told) ≡ Some id
-hover_id id None = refl
-hover_id id (Some told) = refl
-
-by_id : (says : Says) (encoding : Encoding) (id : Data) (uri : List ℕ) (question : Question)
-    (text : List ℕ) → id_of (answer_by says encoding id uri question text) ≡ Some id
-unfolding answer_by
-by_id says encoding id uri question.Symbols text = refl
-by_id says encoding id uri (question.Definition place) text =
-    location_id id uri (says.declared_at encoding text place)
-by_id says encoding id uri (question.Hover place) text =
-    hover_id id (says.told_at encoding text place)
-
-of_id : (says : Says) (encoding : Encoding) (id : Data) (question : Question) (doc : Doc) →
-    id_of (answer_of says encoding id question doc) ≡ Some id
+of_id : (says : Says) (encoding : Encoding) (id : Data) (query : Query) (doc : Doc) →
+    id_of (answer_of says encoding id query doc) ≡ Some id
 unfolding answer_of
-of_id says encoding id question doc = by (checked doc.text)
-  where
-    by : (text : Option (List ℕ)) →
-        id_of (option_map_or (answer_by says encoding id doc.uri question) text (AnswerNull id))
-        ≡ Some id
-    by None = refl
-    by (Some text) = by_id says encoding id doc.uri question text
+of_id says encoding id query doc =
+    answered_id id doc.uri (answer_by says encoding query doc.text)
 
 on_id : (says : Says) (encoding : Encoding) (docs : List Doc) (id : Data) (uri : List ℕ)
-    (question : Question) → id_of (answer_on says encoding docs id uri question) ≡ Some id
+    (query : Query) → id_of (answer_on says encoding docs id uri query) ≡ Some id
 unfolding answer_on
-on_id says encoding docs id uri question = by (document_of uri docs)
+on_id says encoding docs id uri query = by (document_of uri docs)
   where
     by : (doc : Option Doc) →
-        id_of (option_map_or (answer_of says encoding id question) doc (AnswerError id error.InvalidParams))
+        id_of (option_map_or (answer_of says encoding id query) doc
+        (AnswerError id error.InvalidParams))
         ≡ Some id
     by None = refl
-    by (Some doc) = of_id says encoding id question doc
+    by (Some doc) = of_id says encoding id query doc
 
 first_id : (id : Data) (asked : Asked) → id_of (answer_first id asked) ≡ Some id
 first_id id (Initialize encoding) = refl
 first_id id Shutdown = refl
-first_id id (DocumentSymbol uri) = refl
-first_id id (Definition at) = refl
-first_id id (Hover at) = refl
+first_id id (OfDocument uri query) = refl
 first_id id asked.InvalidParams = refl
 first_id id MethodNotFound = refl
 
@@ -82,17 +63,12 @@ ready_id : (says : Says) (encoding : Encoding) (docs : List Doc) (id : Data) (as
     id_of (answer_ready says encoding docs id asked) ≡ Some id
 ready_id says encoding docs id (Initialize other) = refl
 ready_id says encoding docs id Shutdown = refl
-ready_id says encoding docs id (DocumentSymbol uri) =
-    on_id says encoding docs id uri question.Symbols
-ready_id says encoding docs id (Definition at) =
-    on_id says encoding docs id at.uri (question.Definition at.place)
-ready_id says encoding docs id (Hover at) =
-    on_id says encoding docs id at.uri (question.Hover at.place)
+ready_id says encoding docs id (OfDocument uri query) = on_id says encoding docs id uri query
 ready_id says encoding docs id asked.InvalidParams = refl
 ready_id says encoding docs id MethodNotFound = refl
 
 pub answer_id : (says : Says) (phase : Phase) (encoding : Encoding) (docs : List Doc) (id : Data)
-    (asked : Asked) → id_of (answer_in says phase encoding docs id asked) ≡ Some id
+    (asked : Asked) → id_of (answer_in_phase says phase encoding docs id asked) ≡ Some id
 answer_id says New encoding docs id asked = first_id id asked
 answer_id says Ready encoding docs id asked = ready_id says encoding docs id asked
 answer_id says Shut encoding docs id asked = refl
@@ -102,7 +78,7 @@ pub answered_once : (says : Says) (s : Served) (turn : Turn) (id : Data) (asked 
     heard_at turn ≡ Request id asked →
     (reply : Reply) × (replied says s turn ≡ reply ∷ []) × (id_of reply ≡ Some id)
 answered_once says s turn id asked heard = (
-  answer_in says s.phase s.encoding s.docs id asked,
+  answer_in_phase says s.phase s.encoding s.docs id asked,
   ap (replies_to says s) heard,
   answer_id says s.phase s.encoding s.docs id asked,
 )

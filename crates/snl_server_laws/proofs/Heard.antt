@@ -1,5 +1,5 @@
 -- What is heard in a body is text.
-use Rattle.std.proofs.Common.{◌≡◌, ℕ, ◌^◌, ◌<◌, Bool, true, false, List, ◌∷◌, Option, None, Some, IsUtf8, codes, refl, Ordering, Less, Equal, Greater}
+use Rattle.std.proofs.Common.{◌≡◌, ℕ, ◌^◌, ◌<◌, Bool, true, false, List, ◌∷◌, Option, None, Some, IsUtf8, codes, refl, subst, Ordering, Less, Equal, Greater}
 use Rattle.std.specs.Prelude.{IfSome, if◌then◌else◌}
 use Rattle.std.specs.List.{AllByRecursion as Each}
 use Rattle.std.specs.Option.{option_and_then, option_map}
@@ -13,12 +13,13 @@ use Rattle.serde_json.specs.Find.{as_array, as_number, as_str, as_u64, get, get_
 use Rattle.serde_json.specs.Read.{read}
 use Rattle.snl_place.specs.declared.places.Place.{Place}
 use Rattle.snl_hear.specs.Changes.{Changed, Part, all_changes_in, change_by, change_in, changes_in, range_in}
-use Rattle.snl_hear.specs.Documents.{Located, document_in, located_in, number_at, position_in, string_at, text_in, uri_in, version_in}
+use Rattle.snl_hear.specs.Documents.{document_in, number_at, string_at, text_in, uri_in, version_in}
 use Rattle.snl_hear.specs.Heard.{NoMessage, Response, by_method, heard_in, is_response, request_by, with_method}
 use Rattle.snl_hear.specs.Ids.{id_in, is_id, is_whole}
 use Rattle.snl_hear.specs.Json.{json_in}
 use Rattle.snl_hear.specs.Notifications.{changed_by, closed_by, noted_in, opened_by}
-use Rattle.snl_hear.specs.Requests.{Asked, Definition, DocumentSymbol, Hover, asked_in, fitting}
+use Rattle.snl_hear.specs.RequestLaws.{document_named}
+use Rattle.snl_hear.specs.Requests.{Asked, Initialize, Shutdown, OfDocument, InvalidParams, MethodNotFound, asked_in}
 use Rattle.snl_hear.specs.Sound.{IsSound}
 use Rattle.snl_turns.specs.Turns.{Turn, HeaderAlone, Body, heard_at}
 use Rattle.snl_server_laws.specs.Read.{AreRead, AreReadMembers, IsRead, IsReadNumber}
@@ -109,17 +110,6 @@ module _ (params : Option Data) (h : IfSomeHas IsRead params) where
       has_then IsRead IsUtf8 (string_at (codes "text")) (string_read (codes "text"))
       (document_in params) document_read
 
-  located_read : IfSomeHas (λ (at : Located). IsUtf8 at.uri) (located_in params)
-  located_read =
-      has_then IsUtf8 (λ (at : Located). IsUtf8 at.uri) _
-      (λ uri utf8. by uri utf8 (position_in params)) (uri_in params) uri_read
-    where
-      by : (uri : List ℕ) → IsUtf8 uri → (o : Option Place) →
-          IfSomeHas (λ (at : Located). IsUtf8 at.uri)
-          (option_map (λ place. record { uri = uri; place = place }) o)
-      by uri utf8 None = tt
-      by uri utf8 (Some place) = utf8
-
   -- ---- changes
 
   change_read : (text : List ℕ) → IsUtf8 text → (range : Option Data) →
@@ -206,37 +196,16 @@ module _ (params : Option Data) (h : IfSomeHas IsRead params) where
 
   -- ---- requests
 
-  fitting_text : (o : Option Asked) → IfSomeHas IsTextAsked o → IsTextAsked (fitting o)
-  fitting_text None k = tt
-  fitting_text (Some asked) k = k
-
   asked_text : (name : List ℕ) → IsTextAsked (asked_in name params)
-  asked_text name =
-      by (bytes_eq name (codes "initialize")) refl (bytes_eq name (codes "shutdown")) refl
-      (bytes_eq name (codes "textDocument/documentSymbol")) refl
-      (bytes_eq name (codes "textDocument/definition")) refl
-      (bytes_eq name (codes "textDocument/hover")) refl
+  asked_text name = by (asked_in name params) refl
     where
-      by : (a : Bool) → bytes_eq name (codes "initialize") ≡ a →
-          (b : Bool) → bytes_eq name (codes "shutdown") ≡ b →
-          (c : Bool) → bytes_eq name (codes "textDocument/documentSymbol") ≡ c →
-          (d : Bool) → bytes_eq name (codes "textDocument/definition") ≡ d →
-          (e : Bool) → bytes_eq name (codes "textDocument/hover") ≡ e →
-          IsTextAsked (asked_in name params)
-      by true is b eb c ec d ed e ee = rw is tt
-      by false ea true is c ec d ed e ee = rw (ea, is) tt
-      by false ea false eb true is d ed e ee =
-          rw (ea, eb, is) (fitting_text (option_map DocumentSymbol (uri_in params))
-          (has_map IsUtf8 IsTextAsked DocumentSymbol (λ uri k. k) (uri_in params) uri_read))
-      by false ea false eb false ec true is e ee =
-          rw (ea, eb, ec, is) (fitting_text (option_map Definition (located_in params))
-          (has_map (λ (at : Located). IsUtf8 at.uri) IsTextAsked Definition (λ at k. k)
-          (located_in params) located_read))
-      by false ea false eb false ec false ed true is =
-          rw (ea, eb, ec, ed, is) (fitting_text (option_map Hover (located_in params))
-          (has_map (λ (at : Located). IsUtf8 at.uri) IsTextAsked Hover (λ at k. k)
-          (located_in params) located_read))
-      by false ea false eb false ec false ed false ee = rw (ea, eb, ec, ed, ee) tt
+      by : (asked : Asked) → asked_in name params ≡ asked → IsTextAsked asked
+      by (Initialize encoding) is = tt
+      by Shutdown is = tt
+      by (OfDocument uri query) is =
+          subst (IfSomeHas IsUtf8) (document_named name params uri query is) uri_read
+      by InvalidParams is = tt
+      by MethodNotFound is = tt
 
 -- ---- messages
 

@@ -10,35 +10,32 @@ use Rattle.json.proofs.Printed.Utf8.{IsUtf8-are_ascii}
 use Rattle.serde_json.specs.Data.{Data, null}
 use Rattle.snl_facts.specs.Each.{each_append, each_weaker}
 use Rattle.snl_place.specs.declared.places.Encoding.{Encoding}
-use Rattle.snl_place.specs.declared.places.Place.{Place}
-use Rattle.snl_say.specs.Answers.{error_data, error_text, hover_data, hover_text, initialize_data, initialize_text, location_data, location_text, null_data, null_text}
+use Rattle.snl_say.specs.Answered.{Answered, Nothing, answered_data, answered_text}
+use Rattle.snl_say.specs.Answers.{error_data, error_text, initialize_data, initialize_text, null_data, null_text}
 use Rattle.snl_say.specs.declared.answers.ErrorCode.{ErrorCode}
 use Rattle.snl_say.specs.declared.answers.ErrorCode.TheVariants as error
 use Rattle.snl_say.specs.declared.severity.Severity.{Severity}
 use Rattle.snl_say.specs.Notices.{message_data, message_text}
 use Rattle.snl_say.specs.Publish.{Found, publish_data, publish_text}
-use Rattle.snl_say.specs.Symbols.{SymbolFound, symbols_data, symbols_text}
 use Rattle.snl_hear.specs.Heard.{Heard, NoJson, NoMessage, Response, Request, Notification}
 use Rattle.snl_hear.specs.Ids.{IsSoundId}
 use Rattle.snl_hear.specs.Json.{json_in}
 use Rattle.snl_hear.specs.Notifications.{Noted, Initialized, Exit, DidOpen, DidChange, DidClose, InvalidParams, Other}
-use Rattle.snl_hear.specs.Requests.{Asked, Initialize, Shutdown, DocumentSymbol, Definition, Hover, MethodNotFound}
+use Rattle.snl_hear.specs.Requests.{Asked, Initialize, Shutdown, OfDocument, MethodNotFound, Query}
 use Rattle.snl_hear.specs.Requests as asked
-use Rattle.snl_hear.specs.Sound.{AreSoundFound, AreSoundSymbols, IsSoundPlace, IsSoundVersion}
+use Rattle.snl_hear.specs.Sound.{AreSoundFound, IsSoundAnswer, IsSoundVersion}
 use Rattle.snl_docs.specs.declared.phase.Phase.{Phase}
 use Rattle.snl_docs.specs.declared.phase.Phase.TheVariants.{New, Ready, Shut, Gone}
-use Rattle.snl_docs.specs.declared.question.Question.{Question}
-use Rattle.snl_docs.specs.declared.question.Question.TheVariants as question
-use Rattle.snl_docs.specs.Asked.{answer_by, answer_of, answer_on, hover_answer, location_answer}
-use Rattle.snl_docs.specs.Served.{Served, answer_first, answer_in, answer_ready, is_ready, replied, replies_to, told_by, told_note}
+use Rattle.snl_docs.specs.Asked.{answer_by, answer_of, answer_on}
+use Rattle.snl_docs.specs.Served.{Served, answer_first, answer_in_phase, answer_ready, is_ready, replied, replies_to, told_by, told_note}
 use Rattle.snl_document.specs.declared.standing.Standing.{Standing}
 use Rattle.snl_document.specs.declared.standing.Standing.TheVariants.{Checked, Large, Lost}
 use Rattle.snl_document.specs.Documents.{Doc, after_changes, document_of, is_named, lost, opened}
 use Rattle.snl_document.specs.Notices.{large_notice, lost_notice}
-use Rattle.snl_document.specs.Says.{NameTold, Says}
+use Rattle.snl_document.specs.Says.{Says}
 use Rattle.snl_document.specs.Texts.{checked, changed_by_all, limit, standing}
 use Rattle.snl_document.specs.Told.{found_of_text, notices, stays, told, told_after, told_of, told_of_all, told_of_named}
-use Rattle.snl_replies.specs.Replies.{Reply, Publish, Notice, AnswerNull, AnswerInitialize, AnswerSymbols, AnswerLocation, AnswerHover, AnswerError, body_of}
+use Rattle.snl_replies.specs.Replies.{Reply, Publish, Notice, AnswerNull, AnswerInitialize, Answer, AnswerError, body_of}
 use Rattle.snl_turns.specs.Turns.{Turn, heard_at}
 use Rattle.snl_server_laws.specs.Answered.{data_of}
 use Rattle.snl_server_laws.specs.Texts.{AreTextDocs, IsTextChange, IsTextDoc, IsTextHeard, IsTextNoted, SaysText}
@@ -52,11 +49,7 @@ IsSoundReply (Publish found uri version) =
 IsSoundReply (Notice severity message) = IsUtf8 message
 IsSoundReply (AnswerNull id) = IsSoundId id
 IsSoundReply (AnswerInitialize id encoding) = IsSoundId id
-IsSoundReply (AnswerSymbols id symbols) = IsSoundId id × AreSoundSymbols symbols
-IsSoundReply (AnswerLocation id uri start stop) =
-    IsSoundId id × IsUtf8 uri × IsSoundPlace start × IsSoundPlace stop
-IsSoundReply (AnswerHover id contents start stop) =
-    IsSoundId id × IsUtf8 contents × IsSoundPlace start × IsSoundPlace stop
+IsSoundReply (Answer id uri answered) = IsSoundId id × IsUtf8 uri × IsSoundAnswer answered
 IsSoundReply (AnswerError id code) = IsSoundId id ⊎ (id ≡ null)
 
 -- the laws that what can be written reads back
@@ -69,14 +62,9 @@ pub record ReadsBack : Type 0 where
   pub null_answer : (id : Data) → IsSoundId id → json_in (null_text id) ≡ Some (null_data id)
   pub initialize : (id : Data) (encoding : Encoding) → IsSoundId id →
       json_in (initialize_text id encoding) ≡ Some (initialize_data id encoding)
-  pub symbols : (id : Data) (symbols : List SymbolFound) → IsSoundId id → AreSoundSymbols symbols →
-      json_in (symbols_text id symbols) ≡ Some (symbols_data id symbols)
-  pub location : (id : Data) (uri : List ℕ) (start stop : Place) → IsSoundId id → IsUtf8 uri →
-      IsSoundPlace start → IsSoundPlace stop →
-      json_in (location_text id uri start stop) ≡ Some (location_data id uri start stop)
-  pub hover : (id : Data) (contents : List ℕ) (start stop : Place) → IsSoundId id →
-      IsUtf8 contents → IsSoundPlace start → IsSoundPlace stop →
-      json_in (hover_text id contents start stop) ≡ Some (hover_data id contents start stop)
+  pub answer : (id : Data) (uri : List ℕ) (answered : Answered) → IsSoundId id → IsUtf8 uri →
+      IsSoundAnswer answered →
+      json_in (answered_text id uri answered) ≡ Some (answered_data id uri answered)
   pub failure : (id : Data) (code : ErrorCode) → IsSoundId id →
       json_in (error_text id code) ≡ Some (error_data id code)
   pub failure_alone : (code : ErrorCode) →
@@ -90,10 +78,7 @@ read_back laws (Publish found uri version) h = laws.publish found uri version h.
 read_back laws (Notice severity message) h = laws.notice severity message h
 read_back laws (AnswerNull id) h = laws.null_answer id h
 read_back laws (AnswerInitialize id encoding) h = laws.initialize id encoding h
-read_back laws (AnswerSymbols id symbols) h = laws.symbols id symbols h.0 h.1
-read_back laws (AnswerLocation id uri start stop) h = laws.location id uri start stop h.0 h.1 h.2 h.3
-read_back laws (AnswerHover id contents start stop) h =
-    laws.hover id contents start stop h.0 h.1 h.2 h.3
+read_back laws (Answer id uri answered) h = laws.answer id uri answered h.0 h.1 h.2
 read_back laws (AnswerError id code) (inl h) = laws.failure id code h
 read_back laws (AnswerError id code) (inr none) =
     subst (λ (d : Data). json_in (error_text d code) ≡ Some (error_data d code)) (sym none)
@@ -197,60 +182,37 @@ module _ (says : Says) (text_says : SaysText says) (encoding : Encoding) where
 
   -- ---- answers
 
-  location_sound : (id : Data) (uri : List ℕ) (places : Option (Place × Place)) → IsSoundId id →
-      IsUtf8 uri → IfSome places (λ p. IsSoundPlace p.0 × IsSoundPlace p.1) →
-      IsSoundReply (location_answer id uri places)
-  location_sound id uri None h u k = h
-  location_sound id uri (Some (start, stop)) h u k = (h, u, k.0, k.1)
-
-  hover_sound : (id : Data) (name : Option NameTold) → IsSoundId id →
-      IfSome name (λ n. IsUtf8 n.bytes × IsSoundPlace n.start × IsSoundPlace n.stop) →
-      IsSoundReply (hover_answer id name)
-  hover_sound id None h k = h
-  hover_sound id (Some name) h k = (h, k.0, k.1, k.2)
-
-  answer_sound : (id : Data) (uri : List ℕ) (q : Question) (text : List ℕ) → IsSoundId id →
-      IsUtf8 uri → IsUtf8 text → length text ≤ limit →
-      IsSoundReply (answer_by says encoding id uri q text)
-  unfolding answer_by
-  answer_sound id uri question.Symbols text h u utf8 few =
-      (h, text_says.symbols encoding text utf8 few)
-  answer_sound id uri (question.Definition place) text h u utf8 few =
-      location_sound id uri (says.declared_at encoding text place) h u
-      (text_says.declared encoding text place utf8 few)
-  answer_sound id uri (question.Hover place) text h u utf8 few =
-      hover_sound id (says.told_at encoding text place) h
-      (text_says.told encoding text place utf8 few)
-
-  of_sound : (id : Data) (q : Question) (d : Doc) → IsSoundId id → IsTextDoc d →
-      IsSoundReply (answer_of says encoding id q d)
-  unfolding answer_of
-  of_sound id q d h k = by (checked d.text) (checked_few d.text k.text)
+  answered_sound : (query : Query) (text : Option (List ℕ)) → IfSome text IsUtf8 →
+      IsSoundAnswer (answer_by says encoding query text)
+  answered_sound query text h = by (checked text) (checked_few text h)
     where
       by : (o : Option (List ℕ)) → IfSome o (λ t. IsUtf8 t × (length t ≤ limit)) →
-          IsSoundReply (option_map_or (answer_by says encoding id d.uri q) o (AnswerNull id))
-      by None l = h
-      by (Some text) l = answer_sound id d.uri q text h k.uri l.0 l.1
+          IsSoundAnswer (option_map_or (λ t. says.answer_in encoding t query) o Nothing)
+      by None k = tt
+      by (Some t) k = text_says.answers encoding t query k.0 k.1
 
-  on_sound : (docs : List Doc) (id : Data) (uri : List ℕ) (q : Question) → IsSoundId id →
-      Each IsTextDoc docs → IsSoundReply (answer_on says encoding docs id uri q)
+  of_sound : (id : Data) (query : Query) (d : Doc) → IsSoundId id → IsTextDoc d →
+      IsSoundReply (answer_of says encoding id query d)
+  unfolding answer_of
+  of_sound id query d h k = (h, k.uri, answered_sound query d.text k.text)
+
+  on_sound : (docs : List Doc) (id : Data) (uri : List ℕ) (query : Query) → IsSoundId id →
+      Each IsTextDoc docs → IsSoundReply (answer_on says encoding docs id uri query)
   unfolding answer_on
-  on_sound [] id uri q h k = inl h
-  on_sound (x ∷ docs) id uri q h k = by (is_named uri x) (on_sound docs id uri q h k.1)
+  on_sound [] id uri query h k = inl h
+  on_sound (x ∷ docs) id uri query h k = by (is_named uri x) (on_sound docs id uri query h k.1)
     where
-      by : (b : Bool) → IsSoundReply (answer_on says encoding docs id uri q) →
-          IsSoundReply (option_map_or (answer_of says encoding id q)
+      by : (b : Bool) → IsSoundReply (answer_on says encoding docs id uri query) →
+          IsSoundReply (option_map_or (answer_of says encoding id query)
           (if b then Some x else document_of uri docs) (AnswerError id error.InvalidParams))
-      by true rest = of_sound id q x h k.0
+      by true rest = of_sound id query x h k.0
       by false rest = rest
 
   first_sound : (id : Data) (asked : Asked) → IsSoundId id →
       IsSoundReply (answer_first id asked)
   first_sound id (Initialize other) h = h
   first_sound id Shutdown h = inl h
-  first_sound id (DocumentSymbol uri) h = inl h
-  first_sound id (Definition at) h = inl h
-  first_sound id (Hover at) h = inl h
+  first_sound id (OfDocument uri query) h = inl h
   first_sound id asked.InvalidParams h = inl h
   first_sound id MethodNotFound h = inl h
 
@@ -258,15 +220,12 @@ module _ (says : Says) (text_says : SaysText says) (encoding : Encoding) where
       Each IsTextDoc docs → IsSoundReply (answer_ready says encoding docs id asked)
   ready_sound docs id (Initialize other) h k = inl h
   ready_sound docs id Shutdown h k = h
-  ready_sound docs id (DocumentSymbol uri) h k = on_sound docs id uri question.Symbols h k
-  ready_sound docs id (Definition at) h k =
-      on_sound docs id at.uri (question.Definition at.place) h k
-  ready_sound docs id (Hover at) h k = on_sound docs id at.uri (question.Hover at.place) h k
+  ready_sound docs id (OfDocument uri query) h k = on_sound docs id uri query h k
   ready_sound docs id asked.InvalidParams h k = inl h
   ready_sound docs id MethodNotFound h k = inl h
 
   in_sound : (phase : Phase) (docs : List Doc) (id : Data) (asked : Asked) → IsSoundId id →
-      Each IsTextDoc docs → IsSoundReply (answer_in says phase encoding docs id asked)
+      Each IsTextDoc docs → IsSoundReply (answer_in_phase says phase encoding docs id asked)
   in_sound New docs id asked h k = first_sound id asked h
   in_sound Ready docs id asked h k = ready_sound docs id asked h k
   in_sound Shut docs id asked h k = inl h

@@ -12,7 +12,7 @@ use Rattle.snl_lex.specs.Edit.{spliced}
 use Rattle.snl_hear.specs.Changes.{Changed, Part, Whole}
 use Rattle.snl_hear.specs.Heard.{Heard, NoJson, NoMessage, Response, Request, Notification}
 use Rattle.snl_hear.specs.Notifications.{Noted, Initialized, Exit, DidOpen, DidChange, DidClose, InvalidParams, Other}
-use Rattle.snl_hear.specs.Requests.{Asked, Initialize, Shutdown, DocumentSymbol, Definition, Hover, MethodNotFound}
+use Rattle.snl_hear.specs.Requests.{Asked, Initialize, Shutdown, OfDocument, MethodNotFound}
 use Rattle.snl_hear.specs.Requests as asked
 use Rattle.snl_docs.specs.declared.phase.Phase.{Phase}
 use Rattle.snl_docs.specs.declared.phase.Phase.TheVariants.{New, Ready, Shut, Gone}
@@ -124,16 +124,12 @@ request_text : (s : Served) (phase : Phase) (asked : Asked) → Each IsTextDoc s
     Each IsTextDoc (after_request phase s asked).docs
 request_text s New (Initialize encoding) h = h
 request_text s New Shutdown h = h
-request_text s New (DocumentSymbol uri) h = h
-request_text s New (Definition at) h = h
-request_text s New (Hover at) h = h
+request_text s New (OfDocument uri query) h = h
 request_text s New asked.InvalidParams h = h
 request_text s New MethodNotFound h = h
 request_text s Ready (Initialize encoding) h = h
 request_text s Ready Shutdown h = h
-request_text s Ready (DocumentSymbol uri) h = h
-request_text s Ready (Definition at) h = h
-request_text s Ready (Hover at) h = h
+request_text s Ready (OfDocument uri query) h = h
 request_text s Ready asked.InvalidParams h = h
 request_text s Ready MethodNotFound h = h
 request_text s Shut asked h = h

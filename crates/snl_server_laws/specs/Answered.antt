@@ -3,14 +3,14 @@ use Rattle.std.specs.Prelude.{List, [], ◌∷◌, ◌++◌, Option, Some, None,
 use Rattle.std.specs.List.{filter_map}
 use Rattle.serde_json.specs.Data.{Data, null}
 use Rattle.serde_json.specs.Find.{get}
-use Rattle.snl_say.specs.Answers.{error_data, hover_data, initialize_data, location_data, null_data}
+use Rattle.snl_say.specs.Answered.{answered_data}
+use Rattle.snl_say.specs.Answers.{error_data, initialize_data, null_data}
 use Rattle.snl_say.specs.Notices.{message_data}
 use Rattle.snl_say.specs.Publish.{publish_data}
-use Rattle.snl_say.specs.Symbols.{symbols_data}
 use Rattle.snl_hear.specs.Heard.{Heard, NoJson, NoMessage, Response, Request, Notification}
 use Rattle.snl_document.specs.Says.{Says}
 use Rattle.snl_docs.specs.Served.{Served, after, replied}
-use Rattle.snl_replies.specs.Replies.{Reply, Publish, Notice, AnswerNull, AnswerInitialize, AnswerSymbols, AnswerLocation, AnswerHover, AnswerError}
+use Rattle.snl_replies.specs.Replies.{Reply, Publish, Notice, AnswerNull, AnswerInitialize, Answer, AnswerError}
 use Rattle.snl_turns.specs.Turns.{Turn, heard_at}
 
 -- The value of JSON that a reply is.
@@ -19,9 +19,7 @@ data_of (Publish found uri version) = publish_data found uri version
 data_of (Notice severity message) = message_data severity message
 data_of (AnswerNull id) = null_data id
 data_of (AnswerInitialize id encoding) = initialize_data id encoding
-data_of (AnswerSymbols id symbols) = symbols_data id symbols
-data_of (AnswerLocation id uri start stop) = location_data id uri start stop
-data_of (AnswerHover id contents start stop) = hover_data id contents start stop
+data_of (Answer id uri answered) = answered_data id uri answered
 data_of (AnswerError id code) = error_data id code
 
 -- What its member `id` is: what has none answers nothing.

@@ -1,14 +1,13 @@
 -- What is heard, kept of documents and said is text: strings are UTF-8, and versions have 64 bits.
 use Rattle.std.specs.Prelude.{ℕ, ◌≤◌, List, length, All, IfSome, IsUtf8, ⊤}
 use Rattle.snl_place.specs.declared.places.Encoding.{Encoding}
-use Rattle.snl_place.specs.declared.places.Place.{Place}
 use Rattle.snl_hear.specs.Changes.{Changed, Whole, Part}
 use Rattle.snl_hear.specs.Heard.{Heard, NoJson, NoMessage, Response, Request, Notification}
 use Rattle.snl_hear.specs.Ids.{IsSoundId}
 use Rattle.snl_hear.specs.Notifications.{Noted, Initialized, Exit, DidOpen, DidChange, DidClose, InvalidParams, Other}
-use Rattle.snl_hear.specs.Requests.{Asked, Initialize, Shutdown, DocumentSymbol, Definition, Hover, MethodNotFound}
+use Rattle.snl_hear.specs.Requests.{Asked, Initialize, Shutdown, OfDocument, MethodNotFound, Query}
 use Rattle.snl_hear.specs.Requests as asked
-use Rattle.snl_hear.specs.Sound.{AreSoundFound, AreSoundSymbols, IsSoundPlace, IsSoundVersion}
+use Rattle.snl_hear.specs.Sound.{AreSoundFound, IsSoundAnswer, IsSoundVersion}
 use Rattle.snl_document.specs.Documents.{Doc}
 use Rattle.snl_document.specs.Says.{Says}
 use Rattle.snl_document.specs.Texts.{limit}
@@ -32,9 +31,7 @@ IsTextNoted Other = ⊤
 abbrev pub IsTextAsked : Asked → Type 0
 IsTextAsked (Initialize encoding) = ⊤
 IsTextAsked Shutdown = ⊤
-IsTextAsked (DocumentSymbol uri) = IsUtf8 uri
-IsTextAsked (Definition at) = IsUtf8 at.uri
-IsTextAsked (Hover at) = IsUtf8 at.uri
+IsTextAsked (OfDocument uri query) = IsUtf8 uri
 IsTextAsked asked.InvalidParams = ⊤
 IsTextAsked MethodNotFound = ⊤
 
@@ -61,11 +58,5 @@ AreTextDocs docs = All IsTextDoc docs
 pub record SaysText (says : Says) : Type 0 where
   pub found : (encoding : Encoding) (text : List ℕ) → IsUtf8 text → length text ≤ limit →
       AreSoundFound (says.found_in encoding text)
-  pub symbols : (encoding : Encoding) (text : List ℕ) → IsUtf8 text → length text ≤ limit →
-      AreSoundSymbols (says.symbols_in encoding text)
-  pub declared : (encoding : Encoding) (text : List ℕ) (place : Place) → IsUtf8 text →
-      length text ≤ limit → IfSome (says.declared_at encoding text place)
-      (λ places. IsSoundPlace places.0 × IsSoundPlace places.1)
-  pub told : (encoding : Encoding) (text : List ℕ) (place : Place) → IsUtf8 text →
-      length text ≤ limit → IfSome (says.told_at encoding text place)
-      (λ name. IsUtf8 name.bytes × IsSoundPlace name.start × IsSoundPlace name.stop)
+  pub answers : (encoding : Encoding) (text : List ℕ) (query : Query) → IsUtf8 text →
+      length text ≤ limit → IsSoundAnswer (says.answer_in encoding text query)

@@ -13,8 +13,8 @@ ghost use Rattle.snl_server_laws.specs.Answered.{answered_ids, asked_ids, data_o
 ghost use Rattle.snl_turns.specs.Turns.{Turn, heard_at};
 
 use snl_say::{
-    error_is_json, hover_is_json, initialize_is_json, location_is_json, message_is_json,
-    null_is_json, publish_is_json, symbols_are_json,
+    answers_are_json, error_is_json, initialize_is_json, message_is_json, null_is_json,
+    publish_is_json,
 };
 
 /// The body of each reply is the text of its value of JSON.
@@ -25,9 +25,7 @@ pub fn replies_are_json()
     message_is_json();
     null_is_json();
     initialize_is_json();
-    symbols_are_json();
-    location_is_json();
-    hover_is_json();
+    answers_are_json();
     error_is_json();
 }
 

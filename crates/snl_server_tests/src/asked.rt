@@ -2,9 +2,9 @@
 
 ghost use Rattle.std.specs.Prelude.{◌≡◌, ◌<◌, ◌^◌, IfOk, length, vec_len};
 
-use snl_asked::token_at;
 use snl_cut::Count;
 use snl_lex::{PieceList, lex};
+use snl_questions::token_at;
 use std::alloc::Global;
 use std::process::Abort;
 use std::test::Fail;

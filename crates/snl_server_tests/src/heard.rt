@@ -48,11 +48,11 @@ static NEOVIM: [(&[u8], &str); 9] = [
     ),
     (
         b"{\"method\":\"textDocument\\/hover\",\"id\":2,\"params\":{\"position\":{\"line\":25,\"character\":12},\"textDocument\":{\"uri\":\"file:\\/\\/\\/p.stt\"}},\"jsonrpc\":\"2.0\"}",
-        "2 hover file:///p.stt 25:12 ",
+        "2 file:///p.stt Hover(Place { line: 25, character: 12 }) ",
     ),
     (
         b"{\"method\":\"textDocument\\/documentSymbol\",\"id\":4,\"params\":{\"textDocument\":{\"uri\":\"file:\\/\\/\\/p.stt\"}},\"jsonrpc\":\"2.0\"}",
-        "4 symbols file:///p.stt ",
+        "4 file:///p.stt Symbols ",
     ),
     (
         b"{\"method\":\"textDocument\\/didClose\",\"params\":{\"textDocument\":{\"uri\":\"file:\\/\\/\\/p.stt\"}},\"jsonrpc\":\"2.0\"}",
@@ -81,7 +81,7 @@ static EGLOT: [(&[u8], &str); 6] = [
     ),
     (
         b"{\"jsonrpc\":\"2.0\",\"id\":3,\"method\":\"textDocument/definition\",\"params\":{\"textDocument\":{\"uri\":\"file:///p.stt\"},\"position\":{\"line\":2,\"character\":24}}}",
-        "3 definition file:///p.stt 2:24 ",
+        "3 file:///p.stt Definition(Place { line: 2, character: 24 }) ",
     ),
     (
         b"{\"jsonrpc\":\"2.0\",\"id\":5,\"method\":\"shutdown\",\"params\":null}",

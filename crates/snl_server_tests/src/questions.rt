@@ -5,13 +5,20 @@ use snl_docs::Docs;
 use snl_shown::SessionText;
 use std::test::Fail;
 
+// The answers to `initialize`, as it is sent in the rows of these tests.
+const INITIALIZED_IN_UTF_8: &str =
+    "{\"id\":0,\"jsonrpc\":\"2.0\",\"result\":{\"capabilities\":{\"definitionProvider\":true,\"documentSymbolProvider\":true,\"hoverProvider\":true,\"positionEncoding\":\"utf-8\",\"textDocumentSync\":{\"change\":2,\"openClose\":true}},\"serverInfo\":{\"name\":\"snl_lsp\"}}}\n";
+
+pub const INITIALIZED_IN_UTF_16: &str =
+    "{\"id\":1,\"jsonrpc\":\"2.0\",\"result\":{\"capabilities\":{\"definitionProvider\":true,\"documentSymbolProvider\":true,\"hoverProvider\":true,\"positionEncoding\":\"utf-16\",\"textDocumentSync\":{\"change\":2,\"openClose\":true}},\"serverInfo\":{\"name\":\"snl_lsp\"}}}\n";
+
 // A message and the bodies that are answered to it, a line each. A document is opened, and its
 // symbols are asked for. Then, right after `x` in the condition: where that is declared, and what
 // it is. White space means nothing, and nor does the program's name. The last document isn't open.
 static QUESTIONS: [(&[u8], &str); 8] = [
     (
         b"{\"id\":0,\"method\":\"initialize\",\"params\":{\"capabilities\":{\"general\":{\"positionEncodings\":[\"utf-8\"]}}}}",
-        "{\"id\":0,\"jsonrpc\":\"2.0\",\"result\":{\"capabilities\":{\"definitionProvider\":true,\"documentSymbolProvider\":true,\"hoverProvider\":true,\"positionEncoding\":\"utf-8\",\"textDocumentSync\":{\"change\":2,\"openClose\":true}},\"serverInfo\":{\"name\":\"snl_lsp\"}}}\n",
+        INITIALIZED_IN_UTF_8,
     ),
     (
         b"{\"method\":\"textDocument/didOpen\",\"params\":{\"textDocument\":{\"uri\":\"f:p\",\"version\":1,\"text\":\"program p\\nint x; assign x to \\\"v\\\"; monitor x;\\nss s { state a { when (x) { } state a } }\\n\"}}}",

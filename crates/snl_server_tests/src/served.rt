@@ -1,5 +1,6 @@
 //! What a server answers to a client's messages, one after another.
 
+use crate::questions::INITIALIZED_IN_UTF_16;
 use snl_docs::Docs;
 use snl_say::frame_from;
 use snl_shown::SessionText;
@@ -19,7 +20,7 @@ static TALK: [(&[u8], &str); 13] = [
     ),
     (
         b"{\"id\":1,\"method\":\"initialize\",\"params\":{}}",
-        "{\"id\":1,\"jsonrpc\":\"2.0\",\"result\":{\"capabilities\":{\"definitionProvider\":true,\"documentSymbolProvider\":true,\"hoverProvider\":true,\"positionEncoding\":\"utf-16\",\"textDocumentSync\":{\"change\":2,\"openClose\":true}},\"serverInfo\":{\"name\":\"snl_lsp\"}}}\n",
+        INITIALIZED_IN_UTF_16,
     ),
     (b"{\"method\":\"initialized\"}", ""),
     (

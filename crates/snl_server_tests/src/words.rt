@@ -1,6 +1,6 @@
 //! What a message asks, as words.
 
-use snl_hear::{Change, DocumentPlace, Message, Notification, Request};
+use snl_hear::{Change, Message, Notification, Request};
 use snl_place::{Encoding, Place};
 use snl_say::Id;
 use std::alloc::Global;
@@ -37,28 +37,15 @@ fn add_id(alloc: Global, words: &mut Vec<u8>, id: Id<'_>) -> Result<(), Fail> {
     }
 }
 
-fn add_located(
-    alloc: Global,
-    words: &mut Vec<u8>,
-    method: &[u8],
-    located: DocumentPlace<'_>,
-) -> Result<(), Fail> {
-    add_word(words, method)?;
-    add_word(words, located.uri.as_bytes())?;
-    add_place(alloc, words, located.place)
-}
-
 fn add_request(alloc: Global, words: &mut Vec<u8>, request: Request<'_>) -> Result<(), Fail> {
     match request {
         Request::Initialize(Encoding::Utf8) => add_word(words, b"initialize utf-8"),
         Request::Initialize(Encoding::Utf16) => add_word(words, b"initialize utf-16"),
         Request::Shutdown => add_word(words, b"shutdown"),
-        Request::DocumentSymbol { uri } => {
-            add_word(words, b"symbols")?;
-            add_word(words, uri.as_bytes())
+        Request::OfDocument { uri, question } => {
+            add_word(words, uri.as_bytes())?;
+            add_word(words, format!(in alloc; "{question:?}")?.as_bytes())
         }
-        Request::Definition(located) => add_located(alloc, words, b"definition", located),
-        Request::Hover(located) => add_located(alloc, words, b"hover", located),
         Request::InvalidParams => add_word(words, b"invalid params"),
         Request::MethodNotFound => add_word(words, b"method not found"),
     }

@@ -1,7 +1,7 @@
 -- What is found in a text, as it is published.
 use Rattle.std.specs.Prelude.{ℕ, ◌+◌, ◌==◌, List, ◌++◌, map, take, Bool, if◌then◌else◌}
 use Rattle.std.specs.Option.{option_map_or}
-use Rattle.snl_asked.specs.Tokens.{token_at}
+use Rattle.snl_questions.specs.Tokens.{token_at}
 use Rattle.snl_kept.specs.declared.found.findings.Diagnostic.{Diagnostic}
 use Rattle.snl_kept.specs.Diagnostics.{diagnostics_of, is_error, message_of, name_of}
 use Rattle.snl_place.specs.declared.places.Encoding.{Encoding}

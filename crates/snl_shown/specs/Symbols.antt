@@ -2,10 +2,10 @@
 use Rattle.std.specs.Prelude.{ℕ, List, map}
 use Rattle.snl_place.specs.declared.places.Encoding.{Encoding}
 use Rattle.snl_script.specs.Parts.{slice_of}
-use Rattle.snl_symbols.specs.declared.document_symbol.DocumentSymbol.{DocumentSymbol}
-use Rattle.snl_symbols.specs.declared.document_symbol.DocumentSymbolKind.{DocumentSymbolKind}
-use Rattle.snl_symbols.specs.declared.document_symbol.DocumentSymbolKind.TheVariants as symbol
-use Rattle.snl_symbols.specs.Symbols.{symbols_of}
+use Rattle.snl_questions.specs.declared.document_symbols.symbol.DocumentSymbol.{DocumentSymbol}
+use Rattle.snl_questions.specs.declared.document_symbols.symbol.DocumentSymbolKind.{DocumentSymbolKind}
+use Rattle.snl_questions.specs.declared.document_symbols.symbol.DocumentSymbolKind.TheVariants as symbol
+use Rattle.snl_questions.specs.Symbols.{symbols_of}
 use Rattle.snl_say.specs.declared.symbols.SymbolKind.{SymbolKind}
 use Rattle.snl_say.specs.declared.symbols.SymbolKind.TheVariants as shown
 use Rattle.snl_say.specs.Symbols.{SymbolFound}

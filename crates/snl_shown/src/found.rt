@@ -10,10 +10,10 @@ ghost use Rattle.snl_shown.specs.Sources.{IsMark, IsSource};
 
 use crate::places::{begin_of, mark_after, slice_of, source_of};
 use crate::source::{Mark, Source};
-use snl_asked::token_at;
 use snl_cut::OutOfMemory;
 use snl_kept::Diagnostic;
 use snl_place::{Encoding, Place};
+use snl_questions::token_at;
 use snl_say::{Severity, Shown};
 use snl_session::Session;
 use std::alloc::Global;

@@ -3,17 +3,18 @@
 
 ghost use Rattle.std.specs.Prelude.{◌≡◌, ◌∷◌, [], ℕ, List, Some, All};
 ghost use Rattle.serde_json.specs.Data.{Data};
-ghost use Rattle.snl_hear.specs.Documents.{Located};
+ghost use Rattle.snl_place.specs.declared.places.Place.{Place};
+ghost use Rattle.snl_say.specs.Answered as answered;
+ghost use Rattle.snl_say.specs.Answered.{location_answer};
 ghost use Rattle.snl_hear.specs.Heard.{Request};
-ghost use Rattle.snl_hear.specs.Requests.{Definition, DocumentSymbol, Hover};
+ghost use Rattle.snl_hear.specs.Requests.{Definition, Hover, OfDocument, Query, Symbols};
 ghost use Rattle.snl_document.specs.Texts as documents;
 ghost use Rattle.snl_docs.specs.declared.phase.Phase.TheVariants.{Ready};
-ghost use Rattle.snl_docs.specs.Asked.{hover_answer, location_answer};
 ghost use Rattle.snl_docs.specs.Known.{IsByText, checked_text};
 ghost use Rattle.snl_docs.specs.Served.{Served, after, replied};
-ghost use Rattle.snl_replies.specs.Replies.{AnswerSymbols};
+ghost use Rattle.snl_replies.specs.Replies.{Answer};
 ghost use Rattle.snl_session.specs.Edit as sessions;
-ghost use Rattle.snl_shown.specs.Shown.{declared_at, says_of_text, told_at};
+ghost use Rattle.snl_shown.specs.Shown.{answer_in, declared_at, hover_answer, says_of_text, told_at};
 ghost use Rattle.snl_shown.specs.Symbols.{symbols_in};
 ghost use Rattle.snl_turns.specs.Turns.{Turn, heard_at};
 
@@ -32,20 +33,26 @@ pub fn diagnostics_by_text()
 /// checked: by its symbols, by where the name that a cursor is on is declared, and by what a hover
 /// says of that name.
 pub fn questions_by_text()
-    ensures symbols { (s : Served) (turn : Turn) (id : Data) (uri text : List ℕ)
-        → s.phase ≡ Ready → heard_at turn ≡ Request id (DocumentSymbol uri)
+    ensures question { (s : Served) (turn : Turn) (id : Data) (uri text : List ℕ) (query : Query)
+        → s.phase ≡ Ready → heard_at turn ≡ Request id (OfDocument uri query)
         → checked_text uri s.docs ≡ Some text
-        → replied says_of_text s turn ≡ AnswerSymbols id (symbols_in s.encoding text) ∷ [] }
-    ensures definition { (s : Served) (turn : Turn) (id : Data) (at : Located) (text : List ℕ)
-        → s.phase ≡ Ready → heard_at turn ≡ Request id (Definition at)
-        → checked_text at.uri s.docs ≡ Some text
+        → replied says_of_text s turn ≡ Answer id uri (answer_in s.encoding text query) ∷ [] }
+    ensures symbols { (s : Served) (turn : Turn) (id : Data) (uri text : List ℕ)
+        → s.phase ≡ Ready → heard_at turn ≡ Request id (OfDocument uri Symbols)
+        → checked_text uri s.docs ≡ Some text
         → replied says_of_text s turn
-        ≡ location_answer id at.uri (declared_at s.encoding text at.place) ∷ [] }
-    ensures hover { (s : Served) (turn : Turn) (id : Data) (at : Located) (text : List ℕ)
-        → s.phase ≡ Ready → heard_at turn ≡ Request id (Hover at)
-        → checked_text at.uri s.docs ≡ Some text
+        ≡ Answer id uri (answered.Symbols (symbols_in s.encoding text)) ∷ [] }
+    ensures definition { (s : Served) (turn : Turn) (id : Data) (uri text : List ℕ)
+        (place : Place)
+        → s.phase ≡ Ready → heard_at turn ≡ Request id (OfDocument uri (Definition place))
+        → checked_text uri s.docs ≡ Some text
         → replied says_of_text s turn
-        ≡ hover_answer id (told_at s.encoding text at.place) ∷ [] }
+        ≡ Answer id uri (location_answer (declared_at s.encoding text place)) ∷ [] }
+    ensures hover { (s : Served) (turn : Turn) (id : Data) (uri text : List ℕ) (place : Place)
+        → s.phase ≡ Ready → heard_at turn ≡ Request id (OfDocument uri (Hover place))
+        → checked_text uri s.docs ≡ Some text
+        → replied says_of_text s turn
+        ≡ Answer id uri (hover_answer (told_at s.encoding text place)) ∷ [] }
 {
     answered_by_text();
 }

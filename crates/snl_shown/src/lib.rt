@@ -4,10 +4,12 @@
 //! is declared and what is told of it go out, between places. No code here knows of documents and
 //! of what is answered to which message; the laws say what that comes to over such texts.
 //!
-//! `found` has what is found, `symbols` the symbols, `names` what is told of a name; `places`
-//! counts places in a text, on from one to the next. `shown` hands all that to the server.
+//! `found` has what is found, `symbols` the symbols, `names` what is told of a name, and `answers`
+//! the answer to each question; `places` counts places in a text, on from one to the next. `shown`
+//! hands all that to the server.
 #![tactic(auto)]
 
+mod answers;
 mod found;
 mod laws;
 mod names;

@@ -2,35 +2,36 @@
 //! In: a session and a place of its text. Out: where the name is declared, or what is told of it.
 //! Knows nothing of documents.
 
-ghost use Rattle.std.specs.Prelude.{◌≡◌, IfOk, option_map};
-ghost use Rattle.snl_document.specs.Says.{told_of_name};
-ghost use Rattle.snl_shown.specs.Shown.{declared_at, told_at};
+ghost use Rattle.std.specs.Prelude.{◌≡◌, IfOk};
+ghost use Rattle.snl_say.specs.Answered.{answered_of, location_answer};
+ghost use Rattle.snl_shown.specs.Shown.{declared_at, hover_answer, told_at};
 
 use crate::places::{offset_at, places_of, source_of};
 use snl_cut::OutOfMemory;
-use snl_document::ToldName;
-use snl_hover::hover_at;
-use snl_meaning::meaning_near;
 use snl_place::{Encoding, Place};
+use snl_questions::{hover_at, meaning_near};
+use snl_say::Answer;
 use snl_session::Session;
 use std::alloc::Global;
 
-/// The places between which the name is that the name at a place means, if it means one.
-pub fn declared_at(
+/// Where the name is declared that the name at a place means, if it means one.
+pub fn definition_at(
     alloc: Global,
     encoding: Encoding,
     session: &Session,
     place: Place,
-) -> Result<Option<(Place, Place)>, OutOfMemory>
-    ensures { IfOk result (λ declared. declared ≡ declared_at encoding session.now place) }
+) -> Result<Answer<'_>, OutOfMemory>
+    ensures { IfOk result (λ answer. answered_of answer
+        ≡ location_answer (declared_at encoding session.now place)) }
 {
     let offset = offset_at(encoding, session, place);
     let lists = &session.kept().lists;
     let Some(meaning) = meaning_near(alloc, session.text(), lists, offset)? else {
-        return Ok(None);
+        return Ok(Answer::Nothing);
     };
     let source = source_of(encoding, session);
-    Ok(Some(places_of(&source, meaning.declared)))
+    let (start, stop) = places_of(&source, meaning.declared);
+    Ok(Answer::Location { start, stop })
 }
 
 /// What is told of the name at a place, if it means something.
@@ -39,19 +40,19 @@ pub fn told_at(
     encoding: Encoding,
     session: &Session,
     place: Place,
-) -> Result<Option<ToldName>, OutOfMemory>
-    ensures { IfOk result (λ told. option_map (λ name. told_of_name name) told
-        ≡ told_at encoding session.now place) }
+) -> Result<Answer<'_>, OutOfMemory>
+    ensures { IfOk result (λ answer. answered_of answer
+        ≡ hover_answer (told_at encoding session.now place)) }
 {
     let offset = offset_at(encoding, session, place);
     let Some(hover) = hover_at(alloc, session.text(), session.kept(), offset)? else {
-        return Ok(None);
+        return Ok(Answer::Nothing);
     };
     let source = source_of(encoding, session);
     let (start, stop) = places_of(&source, hover.name);
-    Ok(Some(ToldName {
-        lines: hover.lines,
+    Ok(Answer::Hover {
+        contents: hover.lines,
         start,
         stop,
-    }))
+    })
 }

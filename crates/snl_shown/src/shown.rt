@@ -2,13 +2,13 @@
 
 ghost use Rattle.snl_shown.specs.Shown.{says_of_text};
 
+use crate::answers::answer_in;
 use crate::found::found_in;
-use crate::names::{declared_at, told_at};
-use crate::symbols::symbols_in;
 use snl_cut::OutOfMemory;
-use snl_document::{CheckedText, ToldName};
-use snl_place::{Encoding, Place};
-use snl_say::{Shown, ShownSymbol};
+use snl_document::CheckedText;
+use snl_hear::Question;
+use snl_place::Encoding;
+use snl_say::{Answer, Shown};
 use snl_session::{Refused, Session};
 use std::alloc::Global;
 
@@ -52,29 +52,12 @@ impl CheckedText for SessionText {
         found_in(alloc, encoding, &self.session)
     }
 
-    fn symbols(
+    fn answer(
         &self,
         alloc: Global,
         encoding: Encoding,
-    ) -> Result<Vec<ShownSymbol<'_>>, OutOfMemory> {
-        symbols_in(alloc, encoding, &self.session)
-    }
-
-    fn declared(
-        &self,
-        alloc: Global,
-        encoding: Encoding,
-        place: Place,
-    ) -> Result<Option<(Place, Place)>, OutOfMemory> {
-        declared_at(alloc, encoding, &self.session, place)
-    }
-
-    fn told(
-        &self,
-        alloc: Global,
-        encoding: Encoding,
-        place: Place,
-    ) -> Result<Option<ToldName>, OutOfMemory> {
-        told_at(alloc, encoding, &self.session, place)
+        question: Question,
+    ) -> Result<Answer<'_>, OutOfMemory> {
+        answer_in(alloc, encoding, &self.session, question)
     }
 }

@@ -13,9 +13,9 @@ use crate::places::{begin_of, mark_after, mark_from, offset_after, slice_of, sou
 use crate::source::{Mark, Source};
 use snl_cut::OutOfMemory;
 use snl_place::Encoding;
+use snl_questions::{DocumentSymbol, DocumentSymbolKind, symbols};
 use snl_say::{ShownSymbol, SymbolKind};
 use snl_session::Session;
-use snl_symbols::{DocumentSymbol, DocumentSymbolKind, symbols};
 use snl_tables::Span;
 use std::alloc::Global;
 

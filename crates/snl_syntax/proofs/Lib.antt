@@ -2,3 +2,4 @@ pub mod Blamed
 pub mod Levels
 pub mod Opened
 pub mod ParserAnswers
+pub mod Recognized

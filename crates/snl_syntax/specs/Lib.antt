@@ -1,2 +1,3 @@
 pub mod Answered
 pub mod NestsStatement
+pub mod Recognized

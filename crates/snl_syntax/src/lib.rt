@@ -8,11 +8,13 @@ mod fault;
 mod function;
 mod item;
 mod parse;
+mod recognizer;
 mod state;
 mod statement;
 
 pub use fault::ParseFault;
 pub use parse::{parse_item, parsed};
+pub use recognizer::{Recognition, recognize};
 pub use snl_grammar::{
     Assignment, Binary, Kind, Mark, Parsed, Sign, Tokens, blamed_at_fault, first_item, item_read,
     item_spelled, mark, one_fault, one_item, outcome_told, same_spelling_same_tree,

@@ -46,7 +46,7 @@ fn kinds_of(alloc: Global, text: &[u8], tokens: &[Piece]) -> Result<Vec<Kind>, A
 }
 
 // The number of a token: where all were read, it is the last one that is blamed.
-fn within(at: usize, last: usize) -> usize
+pub(crate) fn within(at: usize, last: usize) -> usize
     ensures { result ≡ min at last }
 {
     if at < last { at } else { last }

@@ -11,6 +11,8 @@ mod declarations;
 #[cfg(test)]
 mod edits;
 #[cfg(test)]
+mod expected;
+#[cfg(test)]
 mod expressions;
 #[cfg(test)]
 mod items;

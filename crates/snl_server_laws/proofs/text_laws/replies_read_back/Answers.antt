@@ -10,9 +10,7 @@ returns c = λ says turns turn text_says.
       notice = c.notices_read_back.ensures.message;
       null_answer = c.answers_read_back.ensures.null_answer;
       initialize = c.answers_read_back.ensures.initialize;
-      symbols = c.answers_read_back.ensures.symbols;
-      location = c.answers_read_back.ensures.location;
-      hover = c.answers_read_back.ensures.hover;
+      answer = c.answers_read_back.ensures.answer;
       failure = c.answers_read_back.ensures.error;
       failure_alone = c.answers_read_back.ensures.error_alone;
     } in

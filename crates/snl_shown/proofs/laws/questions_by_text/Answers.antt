@@ -1,14 +1,23 @@
+use Rattle.snl_hear.specs.Requests.{Definition, Hover, Symbols}
 use Rattle.snl_shown.specs.Shown.{says_of_text}
 use Rattle.snl_shown.proofs.laws.questions_by_text.Goals as goal
 
+pub returns-clause-question : goal.returns-clause-question
+returns-clause-question c =
+    λ s turn id uri text query.
+    c.answered_by_text.ensures.question says_of_text s turn id uri text query
+
 pub returns-clause-symbols : goal.returns-clause-symbols
 returns-clause-symbols c =
-    λ s turn id uri text. c.answered_by_text.ensures.symbols says_of_text s turn id uri text
+    λ s turn id uri text.
+    c.answered_by_text.ensures.question says_of_text s turn id uri text Symbols
 
 pub returns-clause-definition : goal.returns-clause-definition
 returns-clause-definition c =
-    λ s turn id at text. c.answered_by_text.ensures.definition says_of_text s turn id at text
+    λ s turn id uri text place.
+    c.answered_by_text.ensures.question says_of_text s turn id uri text (Definition place)
 
 pub returns-clause-hover : goal.returns-clause-hover
 returns-clause-hover c =
-    λ s turn id at text. c.answered_by_text.ensures.hover says_of_text s turn id at text
+    λ s turn id uri text place.
+    c.answered_by_text.ensures.question says_of_text s turn id uri text (Hover place)

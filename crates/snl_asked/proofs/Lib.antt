@@ -1,2 +1,0 @@
-mod Lookup
-mod Numbered

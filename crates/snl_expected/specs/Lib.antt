@@ -1,0 +1,4 @@
+pub mod Expected
+pub mod Groups
+pub mod Kinds
+pub mod DescriptionLaws

@@ -1,4 +1,0 @@
-mod Boundaries
-mod DeclaredStates
-mod Lines
-mod Wakes

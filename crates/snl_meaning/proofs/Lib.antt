@@ -1,5 +1,0 @@
-mod Places
-mod Meant
-mod Locals
-mod Outer
-mod Like

@@ -1,5 +1,0 @@
-use Rattle.snl_meaning.proofs.Like.{like_meaning, like_near}
-use Rattle.snl_meaning.proofs.laws.names_mean_their_like.Goals as goal
-
-pub returns : goal.returns
-returns c = record { exact = like_meaning; near = like_near }

@@ -1,0 +1,11 @@
+pub mod Items
+pub mod ItemTokensLaws
+pub mod Tokens
+pub mod Meanings
+pub mod KeptItems
+pub mod Mentions
+pub mod MentionLaws
+pub mod Slots
+pub mod Symbols
+pub mod Extents
+pub mod Hover

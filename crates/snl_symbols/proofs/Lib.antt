@@ -1,6 +1,0 @@
-mod Kept
-mod Within
-mod Order
-mod Parts
-mod Named
-mod Children

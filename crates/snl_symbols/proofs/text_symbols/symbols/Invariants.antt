@@ -1,9 +1,0 @@
-use Rattle.std.proofs.Common.{◌≡◌}
-use Rattle.snl_item_tokens.specs.Items.{tokens_by_item}
-use Rattle.snl_symbols.specs.Symbols.{symbols_before}
-use Rattle.snl_symbols.proofs.text_symbols.symbols.Given as goal
-
--- the symbols of the items so far are collected
-abbrev pub invariant-loop-item : goal.invariant-loop-item
-invariant-loop-item l =
-    l.symbols.items ≡ symbols_before (tokens_by_item l.items) l.lists.links.outlines l.item
