@@ -202,25 +202,34 @@ class Crates:
         words += ["--antt-project", f"{self.kit}/rattle/logic/antt-project.json"]
         return [*words, "--logic-built", f"{self.kit}/logic_built", "--jobs", "1"]
 
-    def need_libraries(self, name):
-        """Has the libraries below a crate built as their sources are now."""
-        for low in self.below(name):
-            made = os.path.join(self.library(low), "format")
-            if not os.path.exists(made) or is_newer(f"{self.root}/crates/{low}", made):
-                ran = subprocess.run(
-                    ["rt", "lib", "--jobs", "1"],
-                    cwd=f"{self.root}/crates/{low}",
-                    stdin=subprocess.DEVNULL,
-                    capture_output=True,
-                    text=True,
-                    check=False,
-                )
-                if ran.returncode:
-                    raise Stop(f"{low}, which {name} is built on, is not proved")
+    def need_libraries(self, name, are_new=False):
+        """Has the libraries below a crate: as `rt ci` has just built them, or built where they are
+        older than their sources. A library fits only those that it was built over, so then `rt`
+        goes over all of them."""
+        made = {it: f"{self.library(it)}/format" for it in self.below(name)}
+        lacking = [it for it, file in made.items() if not os.path.exists(file)]
+        if are_new and lacking:
+            raise Stop(f"rt ci has left no library of {lacking[0]}, which {name} is built on")
+        old = [it for it, file in made.items() if is_newer(f"{self.root}/crates/{it}", file)]
+        if are_new or not old:
+            return
+        for low in self.deps[name]:
+            ran = subprocess.run(
+                ["rt", "lib", "--jobs", "1"],
+                cwd=f"{self.root}/crates/{low}",
+                stdin=subprocess.DEVNULL,
+                capture_output=True,
+                text=True,
+                check=False,
+            )
+            if ran.returncode:
+                raise Stop(f"{low}, which {name} is built on, is not proved")
 
 
 def is_newer(folder, made):
-    """Whether a source of a crate is newer than what was made of it."""
+    """Whether a source of a crate is newer than what was made of it, or nothing was."""
+    if not os.path.exists(made):
+        return True
     time = os.stat(made).st_mtime
     walks = (it for part in PARTS for it in os.walk(f"{folder}/{part}"))
     return any(os.stat(f"{at}/{it}").st_mtime > time for at, _, names in walks for it in names)
