@@ -10,3 +10,5 @@ mod hovers;
 mod meanings;
 #[cfg(test)]
 mod references;
+#[cfg(test)]
+mod related;
