@@ -55,7 +55,7 @@ fn near_related(found: Option<Nearest>) -> Option<Related>
 pub struct Relations<'a> {
     alloc: Global,
     lists: &'a Lists,
-    items: TextItems<'a>,
+    pub items: TextItems<'a>,
     ghost listed: { IsListed items.text.now lists.now },
 }
 

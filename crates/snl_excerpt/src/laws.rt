@@ -1,0 +1,1 @@
+//! Laws of columns and of what is shown. A function here does nothing: its contract is the law.

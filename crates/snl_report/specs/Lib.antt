@@ -1,0 +1,7 @@
+pub mod Blocks
+pub mod Excerpted
+pub mod Extents
+pub mod Faults
+pub mod Heads
+pub mod Notes
+pub mod Reports

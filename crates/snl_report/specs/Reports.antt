@@ -1,0 +1,36 @@
+-- The report of a text, which the text and its name alone define.
+use Rattle.std.specs.Prelude.{ℕ, List, ◌++◌, None, codes, drop, flat_map, take}
+use Rattle.snl_excerpt.specs.Lines.{shown_bytes}
+use Rattle.snl_kept.specs.declared.found.findings.Diagnostic.{Diagnostic}
+use Rattle.snl_kept.specs.Diagnostics.{diagnostics_of, errors_of, warnings_of}
+use Rattle.snl_related.specs.Related.{related_to}
+use Rattle.snl_report.specs.Blocks.{block}
+use Rattle.snl_script.specs.Parts.{sum_text}
+
+abbrev pub name_line : (name : List ℕ) → List ℕ
+name_line name = shown_bytes name ++ codes ": "
+
+-- `NAME: errors E warnings W`.
+abbrev pub sum_line : (name : List ℕ) → (errors warnings : ℕ) → List ℕ
+sum_line name errors warnings = name_line name ++ sum_text errors warnings
+
+-- So many diagnostics are told with what they are related to, the first ones.
+abbrev pub most_related : ℕ
+most_related = 100
+
+abbrev pub related_block : (name text : List ℕ) → Diagnostic → List ℕ
+related_block name text d = block name text d (related_to text d)
+
+abbrev pub plain_block : (name text : List ℕ) → Diagnostic → List ℕ
+plain_block name text d = block name text d None
+
+abbrev pub blocks : (name text : List ℕ) → List Diagnostic → List ℕ
+blocks name text ds =
+    flat_map (related_block name text) (take most_related ds)
+    ++ flat_map (plain_block name text) (drop most_related ds)
+
+-- A block for each of the diagnostics of the text, in their order, and how many errors and warnings
+-- there are.
+unfoldable pub report_of : (name text : List ℕ) → List ℕ
+report_of name text =
+    blocks name text (diagnostics_of text) ++ sum_line name (errors_of text) (warnings_of text)

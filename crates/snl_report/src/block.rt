@@ -1,0 +1,73 @@
+//! The lines of one finding in a report.
+//! In: the name of a text, the text, a finding and its place. Out: the lines, after bytes that are
+//! there. Notes would come after them.
+
+ghost use Rattle.std.specs.Prelude.{◌≡◌, ℕ, ◌+◌, ◌^◌, ◌<◌, ◌++◌, List, length, min, OnOk};
+ghost use Rattle.snl_excerpt.specs.Columns.{IsCursor};
+ghost use Rattle.snl_report.specs.Blocks.{block_at, hint_text};
+ghost use Rattle.snl_report.specs.Excerpted.{excerpt_text};
+
+use crate::extent::extent;
+use crate::head::{put_head, put_quoted, slice_of};
+use crate::note::is_near;
+use snl_excerpt::{Cursor, put_blank_gutter, put_excerpt, put_gutter, put_marks};
+use snl_kept::Diagnostic;
+use snl_related::Related;
+use std::alloc::AllocError;
+
+/// Puts the shown line of a place, and the marks under it.
+pub fn put_lines(
+    out: &mut Vec<u8>,
+    text: &[u8],
+    from: Cursor,
+    line: usize,
+    len: usize,
+) -> Result<(), AllocError>
+    requires { IsCursor text.now from }
+    ensures { OnOk result (out.new.items ≡ out.old.items
+        ++ excerpt_text text.now from.offset from.before line len) }
+{
+    put_gutter(out, line)?;
+    let marks = put_excerpt(out, text, from, len)?;
+    out.extend_from_slice(b"\n")?;
+    put_blank_gutter(out, line)?;
+    put_marks(out, marks)
+}
+
+/// After the marks of an unknown name, the name that is near it.
+fn put_hint(out: &mut Vec<u8>, text: &[u8], related: Option<Related>) -> Result<(), AllocError>
+    requires { length text.now < 2 ^ 32 }
+    ensures { OnOk result (out.new.items ≡ out.old.items ++ hint_text text.now related) }
+{
+    let Some(related) = related else {
+        return Ok(());
+    };
+    if !is_near(related.kind) {
+        return Ok(());
+    }
+    out.extend_from_slice(b" near:")?;
+    put_quoted(out, slice_of(text, related.span.start, related.span.len))
+}
+
+/// Puts the lines of a finding, whose place is that of the cursor.
+pub fn put_block(
+    out: &mut Vec<u8>,
+    name: &[u8],
+    text: &[u8],
+    from: Cursor,
+    diagnostic: &Diagnostic,
+    related: Option<Related>,
+) -> Result<(), AllocError>
+    requires name { length name.now < 2 ^ 32 }
+    requires text { length text.now < 2 ^ 32 }
+    requires cursor { IsCursor text.now from }
+    ensures { OnOk result (out.new.items ≡ out.old.items
+        ++ block_at name.now text.now from.offset from.before diagnostic.now related) }
+{
+    put_head(out, name, text, from.column(), diagnostic)?;
+    let len = extent(text, from.offset, diagnostic.subject);
+    put_lines(out, text, from, diagnostic.line, len)?;
+    put_hint(out, text, related)?;
+    out.extend_from_slice(b"\n")?;
+    Ok(())
+}

@@ -1,0 +1,307 @@
+//! The report of a text.
+//! In: a name, and a session over the text. Out: a block for each of the text's diagnostics, and how
+//! many there are, to a watched writer. One block is in memory at a time.
+
+ghost use Rattle.std.specs.Prelude.{◌≡◌, ℕ, ◌^◌, ◌<◌, ◌||◌, [], ◌++◌, List, length, IfOk, OnOk, flat_map, is_err};
+ghost use Rattle.snl_excerpt.specs.Columns.{IsCursor};
+ghost use Rattle.snl_report.specs.Blocks.{block};
+ghost use Rattle.snl_report.specs.Faults.{is_unwritten};
+ghost use Rattle.snl_report.specs.Reports.{blocks, name_line, plain_block, related_block, report_of, sum_line};
+ghost use Rattle.snl_kept.specs.Diagnostics.{diagnostics_of};
+ghost use Rattle.snl_lex.specs.LineList.{IsLineList};
+ghost use Rattle.snl_script.specs.Said.{Said, Written};
+ghost use Rattle.snl_script.specs.Watched.{failed_of, inner_of};
+
+use crate::block::put_block;
+use crate::note::put_note;
+use snl_cut::OutOfMemory;
+use snl_excerpt::{Cursor, put_shown, text_start};
+use snl_lex::LineList;
+use snl_questions::all_tokens;
+use snl_related::{Related, Relations};
+use snl_script::{Page, Watched, WriteFault, put_sum};
+use snl_session::{Diagnostic, Session};
+use std::alloc::{AllocError, Global};
+use std::io::Write;
+
+/// So many findings are told with what they are related to, the first ones.
+const MOST_RELATED: usize = 100;
+
+/// Why a report broke off.
+#[derive(Clone, Copy, Debug, PartialEq, Eq)]
+pub enum ReportFault {
+    /// A growth was refused.
+    Memory,
+    /// The writer failed.
+    Write,
+}
+
+impl From<AllocError> for ReportFault {
+    ghost use Rattle.snl_report.specs.declared.report.ReportFault.TheVariants.{Memory};
+
+    ghost from_gives = { λ _ e. e ≡ Memory };
+
+    fn from(_refused: AllocError) -> ReportFault {
+        ReportFault::Memory
+    }
+}
+
+impl From<WriteFault> for ReportFault {
+    ghost use Rattle.snl_report.specs.declared.report.ReportFault.TheVariants.{Write};
+
+    ghost from_gives = { λ _ e. e ≡ Write };
+
+    fn from(_fault: WriteFault) -> ReportFault {
+        ReportFault::Write
+    }
+}
+
+impl From<OutOfMemory> for ReportFault {
+    ghost use Rattle.snl_report.specs.declared.report.ReportFault.TheVariants.{Memory};
+
+    ghost from_gives = { λ _ e. e ≡ Memory };
+
+    fn from(_refused: OutOfMemory) -> ReportFault {
+        ReportFault::Memory
+    }
+}
+
+/// A text that is reported on: its name, its bytes and its lines.
+#[derive(Clone, Copy)]
+struct Reported<'a> {
+    name: &'a [u8],
+    text: &'a [u8],
+    lines: &'a LineList,
+    ghost short_name: { length name.now < 2 ^ 32 },
+    ghost short_text: { length text.now < 2 ^ 32 },
+    ghost own_lines: { IsLineList text.now lines.now },
+}
+
+/// The block of a finding, alone in a room that may hold others.
+fn put_alone(
+    room: &mut Vec<u8>,
+    reported: Reported,
+    from: Cursor,
+    diagnostic: &Diagnostic,
+    related: Option<Related>,
+) -> Result<Cursor, AllocError>
+    requires { IsCursor reported.text.now from }
+    ensures put { OnOk result (room.new.items
+        ≡ block reported.name.now reported.text.now diagnostic.now related) }
+    ensures cursor { IfOk result (λ here. IsCursor reported.text.now here) }
+{
+    let here = from.at(reported.text, diagnostic.offset);
+    room.clear();
+    put_block(
+        room,
+        reported.name,
+        reported.text,
+        here,
+        diagnostic,
+        related,
+    )?;
+    put_note(room, reported.name, reported.text, reported.lines, related)?;
+    Ok(here)
+}
+
+/// Says the block of a finding, and tells its place.
+fn say_block<W: Write>(
+    page: &mut Page,
+    out: &mut Watched<W>,
+    room: &mut Vec<u8>,
+    reported: Reported,
+    from: Cursor,
+    diagnostic: &Diagnostic,
+    related: Option<Related>,
+) -> Result<Cursor, ReportFault>
+    requires { IsCursor reported.text.now from }
+    ensures said { Said result (W.contents (inner_of out.old)) (W.contents (inner_of out.new)) page.new
+        (page.old ++ block reported.name.now reported.text.now diagnostic.now related) }
+    ensures cursor { IfOk result (λ here. IsCursor reported.text.now here) }
+    ensures failed { failed_of out.new ≡ (failed_of out.old || is_unwritten result) }
+{
+    let here = put_alone(room, reported, from, diagnostic, related)?;
+    page.put(out, room.as_slice())?;
+    Ok(here)
+}
+
+/// Says the block of a finding with what it is related to.
+fn say_related_block<W: Write>(
+    page: &mut Page,
+    out: &mut Watched<W>,
+    room: &mut Vec<u8>,
+    reported: Reported,
+    relations: &Relations,
+    from: Cursor,
+    diagnostic: &Diagnostic,
+) -> Result<Cursor, ReportFault>
+    requires cursor { IsCursor reported.text.now from }
+    requires same { relations.now.items.text.now ≡ reported.text.now }
+    ensures said { Said result (W.contents (inner_of out.old)) (W.contents (inner_of out.new)) page.new
+        (page.old ++ related_block reported.name.now reported.text.now diagnostic.now) }
+    ensures cursor { IfOk result (λ here. IsCursor reported.text.now here) }
+    ensures failed { failed_of out.new ≡ (failed_of out.old || is_unwritten result) }
+{
+    let related = relations.related_to(diagnostic)?;
+    say_block(page, out, room, reported, from, diagnostic, related)
+}
+
+/// Says the blocks of diagnostics, each with what it is related to.
+fn say_related_blocks<W: Write>(
+    page: &mut Page,
+    out: &mut Watched<W>,
+    room: &mut Vec<u8>,
+    reported: Reported,
+    relations: &Relations,
+    diagnostics: &[Diagnostic],
+) -> Result<(), ReportFault>
+    requires { relations.now.items.text.now ≡ reported.text.now }
+    ensures said { Said result (W.contents (inner_of out.old)) (W.contents (inner_of out.new)) page.new
+        (page.old ++ flat_map (related_block reported.name.now reported.text.now)
+        diagnostics.now) }
+    ensures failed { failed_of out.new ≡ (failed_of out.old || is_unwritten result) }
+{
+    let mut from = text_start();
+    for diagnostic in diagnostics {
+        from = say_related_block(page, out, room, reported, relations, from, diagnostic)?;
+    }
+    Ok(())
+}
+
+/// Says the blocks of diagnostics alone.
+fn say_plain_blocks<W: Write>(
+    page: &mut Page,
+    out: &mut Watched<W>,
+    room: &mut Vec<u8>,
+    reported: Reported,
+    diagnostics: &[Diagnostic],
+) -> Result<(), ReportFault>
+    ensures said { Said result (W.contents (inner_of out.old)) (W.contents (inner_of out.new)) page.new
+        (page.old ++ flat_map (plain_block reported.name.now reported.text.now)
+        diagnostics.now) }
+    ensures failed { failed_of out.new ≡ (failed_of out.old || is_unwritten result) }
+{
+    let mut from = text_start();
+    for diagnostic in diagnostics {
+        from = say_block(page, out, room, reported, from, diagnostic, None)?;
+    }
+    Ok(())
+}
+
+/// Says the blocks of the first diagnostics of a session's text, each with what it is related to.
+fn say_first_blocks<W: Write>(
+    alloc: Global,
+    page: &mut Page,
+    out: &mut Watched<W>,
+    room: &mut Vec<u8>,
+    reported: Reported,
+    session: &Session,
+    diagnostics: &[Diagnostic],
+) -> Result<(), ReportFault>
+    requires { session.now ≡ reported.text.now }
+    ensures said { Said result (W.contents (inner_of out.old)) (W.contents (inner_of out.new)) page.new
+        (page.old ++ flat_map (related_block reported.name.now reported.text.now)
+        diagnostics.now) }
+    ensures failed { failed_of out.new ≡ (failed_of out.old || is_unwritten result) }
+{
+    if diagnostics.is_empty() {
+        return Ok(());
+    }
+    let lists = &session.kept().lists;
+    let tokens = all_tokens(alloc, &lists.pieces)?;
+    let relations = Relations::of_text(alloc, reported.text, lists, &tokens);
+    say_related_blocks(page, out, room, reported, &relations, diagnostics)
+}
+
+/// Says the blocks of all diagnostics.
+fn say_blocks<W: Write>(
+    alloc: Global,
+    page: &mut Page,
+    out: &mut Watched<W>,
+    room: &mut Vec<u8>,
+    reported: Reported,
+    session: &Session,
+) -> Result<(), ReportFault>
+    requires { session.now ≡ reported.text.now }
+    ensures said { Said result (W.contents (inner_of out.old)) (W.contents (inner_of out.new)) page.new
+        (page.old ++ blocks reported.name.now reported.text.now (diagnostics_of session.now)) }
+    ensures failed { failed_of out.new ≡ (failed_of out.old || is_unwritten result) }
+{
+    let all = session.diagnostics();
+    let (first, others) = all.split_at(all.len().min(MOST_RELATED));
+    say_first_blocks(alloc, page, out, room, reported, session, first)?;
+    say_plain_blocks(page, out, room, reported, others)
+}
+
+/// The name of the text and a colon, alone in a room that may hold other bytes.
+fn put_name_alone(room: &mut Vec<u8>, name: &[u8]) -> Result<(), AllocError>
+    requires { length name.now < 2 ^ 32 }
+    ensures { OnOk result (room.new.items ≡ name_line name.now) }
+{
+    room.clear();
+    put_shown(room, name)?;
+    room.extend_from_slice(b": ")?;
+    Ok(())
+}
+
+/// Says how many errors and warnings the text has.
+fn say_sum<W: Write>(
+    page: &mut Page,
+    out: &mut Watched<W>,
+    room: &mut Vec<u8>,
+    name: &[u8],
+    errors: usize,
+    warnings: usize,
+) -> Result<(), ReportFault>
+    requires { length name.now < 2 ^ 32 }
+    ensures said { Said result (W.contents (inner_of out.old)) (W.contents (inner_of out.new)) page.new
+        (page.old ++ sum_line name.now errors warnings) }
+    ensures failed { failed_of out.new ≡ (failed_of out.old || is_unwritten result) }
+{
+    put_name_alone(room, name)?;
+    page.put(out, room.as_slice())?;
+    put_sum(page, out, errors, warnings)?;
+    Ok(())
+}
+
+/// Says the report of a session's text.
+fn say_report<W: Write>(
+    alloc: Global,
+    page: &mut Page,
+    out: &mut Watched<W>,
+    room: &mut Vec<u8>,
+    name: &[u8],
+    session: &Session,
+) -> Result<(), ReportFault>
+    requires { length name.now < 2 ^ 32 }
+    ensures said { Said result (W.contents (inner_of out.old)) (W.contents (inner_of out.new)) page.new
+        (page.old ++ report_of name.now session.now) }
+    ensures failed { failed_of out.new ≡ (failed_of out.old || is_unwritten result) }
+{
+    let reported = Reported {
+        name,
+        text: session.text(),
+        lines: &session.kept().lists.lines,
+    };
+    say_blocks(alloc, page, out, room, reported, session)?;
+    say_sum(page, out, room, name, session.errors(), session.warnings())
+}
+
+/// Writes the report of a session's text, by the name that it is to have.
+pub fn report<W: Write>(
+    alloc: Global,
+    out: &mut Watched<W>,
+    name: &[u8],
+    session: &Session,
+) -> Result<(), ReportFault>
+    requires { length name.now < 2 ^ 32 }
+    ensures written { Written result (W.contents (inner_of out.old)) (W.contents (inner_of out.new))
+        (report_of name.now session.now) }
+    ensures failed { failed_of out.new ≡ (failed_of out.old || is_unwritten result) }
+{
+    let mut page = Page::new();
+    let mut room = Vec::new(alloc);
+    say_report(alloc, &mut page, out, &mut room, name, session)?;
+    page.finish(out)?;
+    Ok(())
+}
