@@ -16,7 +16,6 @@ use Rattle.snl_kept.specs.declared.found.findings.Diagnostic.{Diagnostic}
 use Rattle.snl_kept.specs.Checks.{links_in}
 use Rattle.snl_kept.specs.Program.{item_tokens}
 use Rattle.snl_questions.specs.declared.meanings.items.TokenPlace.{TokenPlace}
-use Rattle.snl_questions.specs.declared.meanings.near.Meaning.{Meaning}
 use Rattle.snl_questions.specs.Items.{span_at}
 use Rattle.snl_questions.specs.Meanings.{meaning_of, place_from, span_bytes}
 use Rattle.snl_related.specs.declared.nearest.Nearest.{Nearest}

@@ -53,10 +53,9 @@ fn near_related(found: Option<Nearest>) -> Option<Related>
 /// A text, with what is kept of it and its tokens, of which such places are asked.
 #[derive(Clone, Copy)]
 pub struct Relations<'a> {
-    alloc: Global,
-    lists: &'a Lists,
+    pub alloc: Global,
+    pub lists: &'a Lists,
     pub items: TextItems<'a>,
-    ghost listed: { IsListed items.text.now lists.now },
 }
 
 impl<'a> Relations<'a> {
@@ -73,7 +72,8 @@ impl<'a> Relations<'a> {
     ) -> Relations<'a>
         requires listed { IsListed text.now lists.now }
         requires tokens { tokens.now ≡ tokens_of text.now }
-        ensures { result.items.text.now ≡ text.now }
+        ensures text { result.items.text.now ≡ text.now }
+        ensures listed { IsListed result.items.text.now result.lists.now }
     {
         let items = TextItems {
             text,
@@ -106,6 +106,7 @@ impl<'a> Relations<'a> {
         kind: RelatedKind,
         offset: usize,
     ) -> Result<Option<Related>, OutOfMemory>
+        requires { IsListed self.now.items.text.now self.now.lists.now }
         ensures { IfOk result (λ n. n ≡ declaration_related self.now.items.text.now kind offset) }
     {
         let Some(meaning) = meaning_of(self.alloc, self.lists, &self.items, offset)? else {
@@ -208,6 +209,7 @@ impl<'a> Relations<'a> {
 
     // Of what no event flag is: where it is declared, or else the nearest flag.
     fn flag_related(&self, found: &Diagnostic, item: usize) -> Result<Option<Related>, OutOfMemory>
+        requires { IsListed self.now.items.text.now self.now.lists.now }
         ensures { IfOk result (λ n. n ≡ flag_related self.now.items.text.now
             self.now.lists.now.links.outlines found.now item) }
     {
@@ -223,6 +225,7 @@ impl<'a> Relations<'a> {
         found: &Diagnostic,
         place: TokenPlace,
     ) -> Result<Option<Related>, OutOfMemory>
+        requires { IsListed self.now.items.text.now self.now.lists.now }
         ensures { IfOk result (λ n. n ≡ related_by_code found.now.code self.now.items.text.now
             self.now.lists.now.links found.now place) }
     {
@@ -249,6 +252,7 @@ impl<'a> Relations<'a> {
     /// of memory; the time is that of the text's tokens.
     #[tactic(auto, unfolding(crate::specs::Related::related_to))]
     pub fn related_to(&self, found: &Diagnostic) -> Result<Option<Related>, OutOfMemory>
+        requires { IsListed self.now.items.text.now self.now.lists.now }
         ensures { IfOk result (λ n. n ≡ related_to self.now.items.text.now found.now) }
     {
         let Some(place) = self.items.place_at(found.offset) else {
