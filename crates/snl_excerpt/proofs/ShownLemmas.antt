@@ -1,14 +1,14 @@
 -- Steps along bytes that are shown, and bytes put again and again.
-use Rattle.std.proofs.Common.{◌≡◌, ℕ, zero, suc, ◌+◌, ◌-◌, ◌<◌, ◌≤◌, List, [], ◌∷◌, ◌++◌, length, drop, refl, sym, ap, ◌∙◌, subst, append_assoc, arith, get_or, add-zero, add_assoc}
-use Rattle.std.specs.Prelude.{encode_utf8_all, replicate, sum_by}
+use Rattle.std.proofs.Common.{◌≡◌, ℕ, zero, suc, ◌+◌, ◌-◌, ◌<◌, List, [], ◌∷◌, ◌++◌, length, drop, Option, refl, sym, ap, ◌∙◌, append_assoc, arith, get_or, add-zero}
+use Rattle.std.specs.Prelude.{encode_utf8_all, replicate}
 use Rattle.std.proofs.Math.Seq.{drop-cons}
-use Rattle.std.proofs.lemmas.List.{append-nil, replicate-append-replicate}
+use Rattle.std.proofs.lemmas.List.{replicate-append-replicate}
 use Rattle.std.proofs.lemmas.List.Sums.{sum_by-append}
 use Rattle.std.proofs.lemmas.Str.{encodes-append}
 use Rattle.snl_excerpt.specs.declared.glyph.Pen.{Pen}
 use Rattle.bstr.specs.Utf8.{decoded}
 use Rattle.snl_excerpt.specs.Glyphs.{glyph_of, text_width, width_of}
-use Rattle.snl_excerpt.specs.Lines.{pen_after, pen_as, pen_by, put_at, put_by, shown}
+use Rattle.snl_excerpt.specs.Lines.{pen_after, pen_as, pen_by, put_at, put_by, shown, tail_of}
 
 -- ---- a byte that is put so many times
 
@@ -31,14 +31,14 @@ shown_step count at pen bytes more inside =
     step (count - at) (count - (at + 1)) pen (drop at bytes) (drop (at + 1) bytes) (get_or bytes at 0) (omega arith) (next ∙ ap (λ (l : List ℕ). get_or bytes at 0 ∷ l) same)
 
 -- one byte more was shown
-pub shown_more : (old new all bytes : List ℕ) (count at : ℕ) (pen after : Pen) → at < count → at < length bytes → new ≡ old ++ encode_utf8_all (put_at pen (drop at bytes)) → after ≡ pen_after pen (drop at bytes) → old ++ encode_utf8_all (shown (count - at) pen (drop at bytes)) ≡ all → new ++ encode_utf8_all (shown (count - (at + 1)) after (drop (at + 1) bytes)) ≡ all
-shown_more old new all bytes count at pen after more inside put pen_is h =
-    let rest : List ℕ = shown (count - (at + 1)) (pen_after pen (drop at bytes)) (drop (at + 1) bytes) in
+pub shown_more : (old new all bytes rest : List ℕ) (count at : ℕ) (pen after : Pen) → at < count → at < length bytes → rest ≡ drop at bytes → new ≡ old ++ encode_utf8_all (put_at pen rest) → after ≡ pen_after pen rest → old ++ encode_utf8_all (shown (count - at) pen (drop at bytes)) ≡ all → new ++ encode_utf8_all (shown (count - (at + 1)) after (drop (at + 1) bytes)) ≡ all
+shown_more old new all bytes rest count at pen after more inside here_is put pen_is h =
+    let left : List ℕ = shown (count - (at + 1)) (pen_after pen (drop at bytes)) (drop (at + 1) bytes) in
     let here : List ℕ = put_at pen (drop at bytes) in
-    let both : encode_utf8_all (shown (count - at) pen (drop at bytes)) ≡ encode_utf8_all here ++ encode_utf8_all rest = ap encode_utf8_all (shown_step count at pen bytes more inside) ∙ encodes-append here rest in
-    ap (λ (p : Pen). new ++ encode_utf8_all (shown (count - (at + 1)) p (drop (at + 1) bytes))) pen_is
-    ∙ ap (λ (l : List ℕ). l ++ encode_utf8_all rest) put
-    ∙ append_assoc old (encode_utf8_all here) (encode_utf8_all rest)
+    let both : encode_utf8_all (shown (count - at) pen (drop at bytes)) ≡ encode_utf8_all here ++ encode_utf8_all left = ap encode_utf8_all (shown_step count at pen bytes more inside) ∙ encodes-append here left in
+    ap (λ (p : Pen). new ++ encode_utf8_all (shown (count - (at + 1)) p (drop (at + 1) bytes))) (pen_is ∙ ap (pen_after pen) here_is)
+    ∙ ap (λ (l : List ℕ). l ++ encode_utf8_all left) (put ∙ ap (λ (l : List ℕ). old ++ encode_utf8_all (put_at pen l)) here_is)
+    ∙ append_assoc old (encode_utf8_all here) (encode_utf8_all left)
     ∙ ap (λ (l : List ℕ). old ++ l) (sym both) ∙ h
 
 -- ---- where a byte belongs to a character that is shown already, and where not
@@ -70,6 +70,13 @@ pub pen_outside : (pen : Pen) (bytes : List ℕ) → pen.inside ≡ 0 → pen_af
 unfolding pen_after
 pen_outside pen bytes h = ap (λ (n : ℕ). pen_by n pen bytes) h
 
+-- what was put at a byte, by how it was read
+pub put_made : (pen : Pen) (bytes out new : List ℕ) (char : Option ℕ) → pen.inside ≡ 0 → char ≡ (decoded bytes).char → new ≡ out ++ encode_utf8_all (glyph_of pen.column char bytes) → new ≡ out ++ encode_utf8_all (put_at pen bytes)
+put_made pen bytes out new char none c n = n ∙ ap (λ (l : List ℕ). out ++ encode_utf8_all l) (ap (λ (o : Option ℕ). glyph_of pen.column o bytes) c ∙ sym (put_outside pen bytes none))
+
+pub pen_made : (pen : Pen) (bytes : List ℕ) (char : Option ℕ) (size inside column : ℕ) → pen.inside ≡ 0 → char ≡ (decoded bytes).char → size ≡ (decoded bytes).size → inside ≡ tail_of char size → column ≡ pen.column + text_width (glyph_of pen.column char bytes) → record { inside = inside; column = column } ≡ pen_after pen bytes
+pen_made pen bytes char size inside column none c s i w = rw (w, i, c, s) (sym (pen_outside pen bytes none))
+
 -- ---- parts of a line
 
 pub put_two : (out xs ys : List ℕ) → (out ++ encode_utf8_all xs) ++ encode_utf8_all ys ≡ out ++ encode_utf8_all (xs ++ ys)
@@ -91,11 +98,11 @@ pen_column pen bytes = by_inside pen.inside
     by_inside zero = refl
     by_inside (suc inside) = sym (add-zero pen.column)
 
-pub columns_more : (all count at : ℕ) (bytes : List ℕ) (pen after : Pen) → at < count → at < length bytes → after ≡ pen_after pen (drop at bytes) → pen.column + text_width (shown (count - at) pen (drop at bytes)) ≡ all → after.column + text_width (shown (count - (at + 1)) after (drop (at + 1) bytes)) ≡ all
-columns_more all count at bytes pen after more inside pen_is h =
-    let rest : List ℕ = shown (count - (at + 1)) (pen_after pen (drop at bytes)) (drop (at + 1) bytes) in
+pub columns_more : (all count at : ℕ) (bytes rest : List ℕ) (pen after : Pen) → at < count → at < length bytes → rest ≡ drop at bytes → after ≡ pen_after pen rest → pen.column + text_width (shown (count - at) pen (drop at bytes)) ≡ all → after.column + text_width (shown (count - (at + 1)) after (drop (at + 1) bytes)) ≡ all
+columns_more all count at bytes rest pen after more inside here_is pen_is h =
+    let left : List ℕ = shown (count - (at + 1)) (pen_after pen (drop at bytes)) (drop (at + 1) bytes) in
     let here : List ℕ = put_at pen (drop at bytes) in
-    let both : text_width (shown (count - at) pen (drop at bytes)) ≡ text_width here + text_width rest = ap text_width (shown_step count at pen bytes more inside) ∙ sum_by-append width_of here rest in
+    let both : text_width (shown (count - at) pen (drop at bytes)) ≡ text_width here + text_width left = ap text_width (shown_step count at pen bytes more inside) ∙ sum_by-append width_of here left in
     let column : (pen_after pen (drop at bytes)).column ≡ pen.column + text_width here = pen_column pen (drop at bytes) in
-    let same : after.column + text_width (shown (count - (at + 1)) after (drop (at + 1) bytes)) ≡ (pen_after pen (drop at bytes)).column + text_width rest = ap (λ (p : Pen). p.column + text_width (shown (count - (at + 1)) p (drop (at + 1) bytes))) pen_is in
+    let same : after.column + text_width (shown (count - (at + 1)) after (drop (at + 1) bytes)) ≡ (pen_after pen (drop at bytes)).column + text_width left = ap (λ (p : Pen). p.column + text_width (shown (count - (at + 1)) p (drop (at + 1) bytes))) (pen_is ∙ ap (pen_after pen) here_is) in
     omega (arith, same, both, column, h)

@@ -3,4 +3,5 @@ pub mod Excerpts
 pub mod Glyphs
 pub mod Gutters
 pub mod Lines
+pub mod Safe
 pub mod Windows

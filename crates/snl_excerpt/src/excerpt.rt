@@ -12,7 +12,7 @@ ghost use Rattle.snl_excerpt.specs.Windows.{after_count};
 use crate::column::Cursor;
 use crate::glyph::{Pen, put_chars};
 use crate::line::put_front;
-use crate::window::{after_count, front_count, goes_on, inside_of, is_cut};
+use crate::window::{after_count, front_count, goes_on, inside_of, is_cut, rest_of};
 use std::alloc::AllocError;
 
 /// Under which columns of a shown line marks are: from `start` on, up to `stop`.
@@ -37,7 +37,6 @@ fn put_dots(out: &mut Vec<u8>, column: usize, goes_on: bool) -> Result<usize, Al
 }
 
 /// What is shown of the line before the place, and how many columns that takes.
-#[tactic(auto, unfolding(crate::specs::Excerpts::front_line))]
 fn put_front_line(out: &mut Vec<u8>, text: &[u8], from: Cursor) -> Result<usize, AllocError>
     requires { IsCursor text.now from }
     ensures put { OnOk result (out.new.items ≡ out.old.items
@@ -48,7 +47,7 @@ fn put_front_line(out: &mut Vec<u8>, text: &[u8], from: Cursor) -> Result<usize,
 {
     let is_cut = is_cut(from.before);
     let count = front_count(from.before);
-    let bytes = &text[from.offset - count..];
+    let bytes = rest_of(text, from.offset - count);
     let column = put_dots(out, 0, is_cut)?;
     let pen = Pen {
         inside: inside_of(is_cut, bytes),
@@ -75,7 +74,8 @@ fn put_bytes(
     ensures few { IfOk result (λ after. after ≤ column + 24 * count) }
 {
     let pen = Pen { inside: 0, column };
-    put_front(out, pen, bytes, count)
+    let after = put_front(out, pen, bytes, count)?;
+    Ok(after)
 }
 
 /// What is shown of the line from the place on, of which so many bytes are marked, and the column
@@ -94,7 +94,8 @@ fn put_back_line(
     let count = after_count(bytes);
     let marked = len.min(count);
     let stop = put_bytes(out, column, bytes, marked)?;
-    let end = put_bytes(out, stop, &bytes[marked..], count - marked)?;
+    let more = rest_of(bytes, marked);
+    let end = put_bytes(out, stop, more, count - marked)?;
     put_dots(out, end, goes_on(bytes, count))?;
     Ok(stop)
 }
@@ -115,7 +116,8 @@ pub fn put_excerpt(
         marks ≡ marks_of text.now from.offset from.before len) }
 {
     let start = put_front_line(out, text, from)?;
-    let stop = put_back_line(out, start, &text[from.offset..], len)?;
+    let bytes = rest_of(text, from.offset);
+    let stop = put_back_line(out, start, bytes, len)?;
     Ok(Marks { start, stop })
 }
 

@@ -19,4 +19,5 @@ pub use column::{Cursor, text_start};
 pub use excerpt::{Marks, put_excerpt, put_marks};
 pub use glyph::Pen;
 pub use gutter::{put_blank_gutter, put_gutter};
+pub use laws::{columns_lead_back, nothing_commands, nothing_turns, shown_as_it_is};
 pub use line::put_shown;

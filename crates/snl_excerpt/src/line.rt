@@ -8,6 +8,7 @@ ghost use Rattle.snl_excerpt.specs.Glyphs.{text_width};
 ghost use Rattle.snl_excerpt.specs.Lines.{shown, shown_bytes};
 
 use crate::glyph::{Pen, put_at};
+use crate::window::rest_of;
 use std::alloc::AllocError;
 
 /// Shows so many bytes at the front of some, and tells the column after them.
@@ -25,7 +26,7 @@ pub fn put_front(
 {
     let mut pen = pen;
     for at in 0..count {
-        pen = put_at(out, pen, &bytes[at..])?;
+        pen = put_at(out, pen, rest_of(bytes, at))?;
     }
     Ok(pen.column)
 }

@@ -1,5 +1,5 @@
 -- Bytes as the forms write them. What is no UTF-8 is written as `\x` and two digits.
-use Rattle.std.specs.Prelude.{ℕ, zero, suc, ◌-◌, ◌/◌, ◌%◌, ◌==◌, ◌&&◌, ◌||◌, ◌++◌, Bool, List, [], ◌∷◌, Option, Some, None, codes, encode_utf8_all, flat_map, if◌then◌else◌, nat_lt, slice_index}
+use Rattle.std.specs.Prelude.{ℕ, zero, suc, ◌-◌, ◌/◌, ◌%◌, ◌==◌, ◌||◌, ◌++◌, Bool, List, [], ◌∷◌, Option, Some, None, codes, encode_utf8_all, flat_map, if◌then◌else◌, nat_lt, slice_index}
 use Rattle.std.specs.Char.{digit_char, to_ascii_uppercase}
 use Rattle.std.specs.Int.{is_in_range}
 use Rattle.bstr.specs.Utf8.{decoded}

@@ -1,6 +1,7 @@
 //! A finding as an annotation that GitHub reads in the log of a workflow.
 
 ghost use Rattle.std.specs.Prelude.{◌≡◌, ◌++◌, OnOk};
+ghost use Rattle.snl_forms.specs.Forms.{at_of, note_of, notes_of, said_of};
 ghost use Rattle.snl_forms.specs.Forms.{annotation_text, properties_text};
 
 use crate::escape::{Escape, put_escaped};
@@ -9,7 +10,7 @@ use std::alloc::AllocError;
 
 #[tactic(auto, unfolding(crate::specs::Forms::properties_text))]
 fn put_properties(out: &mut Vec<u8>, told: Told) -> Result<(), AllocError>
-    ensures { OnOk result (out.new.items ≡ out.old.items ++ properties_text told.entry) }
+    ensures { OnOk result (out.new.items ≡ out.old.items ++ properties_text (said_of told.entry)) }
 {
     put_bytes(out, b"::")?;
     put_level(out, told.code)?;
@@ -24,7 +25,7 @@ fn put_properties(out: &mut Vec<u8>, told: Told) -> Result<(), AllocError>
 /// Puts a finding as an annotation.
 #[tactic(auto, unfolding(crate::specs::Forms::annotation_text))]
 pub fn put_annotation(out: &mut Vec<u8>, told: Told) -> Result<(), AllocError>
-    ensures { OnOk result (out.new.items ≡ out.old.items ++ annotation_text told.entry) }
+    ensures { OnOk result (out.new.items ≡ out.old.items ++ annotation_text (said_of told.entry)) }
 {
     put_properties(out, told)?;
     put_bytes(out, b",title=")?;

@@ -1,6 +1,7 @@
 //! A finding as an object of JSON, on a line.
 
 ghost use Rattle.std.specs.Prelude.{◌≡◌, ◌++◌, OnOk};
+ghost use Rattle.snl_forms.specs.Forms.{at_of, note_of, notes_of, said_of};
 ghost use Rattle.snl_forms.specs.Forms.{finding_text, members_text, note_text, notes_text, object_text};
 
 use crate::told::{Other, Place, Told, put_bytes, put_code, put_level, put_number, put_string};
@@ -8,7 +9,7 @@ use std::alloc::AllocError;
 
 #[tactic(auto, unfolding(crate::specs::Forms::members_text))]
 fn put_members(out: &mut Vec<u8>, place: Place) -> Result<(), AllocError>
-    ensures { OnOk result (out.new.items ≡ out.old.items ++ members_text place.entry) }
+    ensures { OnOk result (out.new.items ≡ out.old.items ++ members_text (at_of place.entry)) }
 {
     put_bytes(out, b"\"file\":")?;
     put_string(out, place.file)?;
@@ -20,7 +21,7 @@ fn put_members(out: &mut Vec<u8>, place: Place) -> Result<(), AllocError>
 
 #[tactic(auto, unfolding(crate::specs::Forms::note_text))]
 fn put_note(out: &mut Vec<u8>, other: Other) -> Result<(), AllocError>
-    ensures { OnOk result (out.new.items ≡ out.old.items ++ note_text other.entry) }
+    ensures { OnOk result (out.new.items ≡ out.old.items ++ note_text (note_of other.entry)) }
 {
     put_bytes(out, b",\"notes\":[{")?;
     put_members(out, other.place)?;
@@ -31,7 +32,7 @@ fn put_note(out: &mut Vec<u8>, other: Other) -> Result<(), AllocError>
 }
 
 fn put_notes(out: &mut Vec<u8>, related: Option<Other>) -> Result<(), AllocError>
-    ensures { OnOk result (out.new.items ≡ out.old.items ++ notes_text related.entry) }
+    ensures { OnOk result (out.new.items ≡ out.old.items ++ notes_text (notes_of related.entry)) }
 {
     match related {
         Some(other) => put_note(out, other),
@@ -41,7 +42,7 @@ fn put_notes(out: &mut Vec<u8>, related: Option<Other>) -> Result<(), AllocError
 
 #[tactic(auto, unfolding(crate::specs::Forms::finding_text))]
 fn put_finding(out: &mut Vec<u8>, told: Told) -> Result<(), AllocError>
-    ensures { OnOk result (out.new.items ≡ out.old.items ++ finding_text told.entry) }
+    ensures { OnOk result (out.new.items ≡ out.old.items ++ finding_text (said_of told.entry)) }
 {
     put_bytes(out, b"\"severity\":\"")?;
     put_level(out, told.code)?;
@@ -56,7 +57,7 @@ fn put_finding(out: &mut Vec<u8>, told: Told) -> Result<(), AllocError>
 /// where it is related to a place.
 #[tactic(auto, unfolding(crate::specs::Forms::object_text))]
 pub fn put_object(out: &mut Vec<u8>, told: Told) -> Result<(), AllocError>
-    ensures { OnOk result (out.new.items ≡ out.old.items ++ object_text told.entry) }
+    ensures { OnOk result (out.new.items ≡ out.old.items ++ object_text (said_of told.entry)) }
 {
     put_bytes(out, b"{")?;
     put_members(out, told.place)?;

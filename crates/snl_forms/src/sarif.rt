@@ -1,6 +1,7 @@
 //! A finding as a result of SARIF 2.1.0.
 
 ghost use Rattle.std.specs.Prelude.{◌≡◌, ◌++◌, OnOk};
+ghost use Rattle.snl_forms.specs.Forms.{at_of, note_of, notes_of, said_of};
 ghost use Rattle.snl_forms.specs.Forms.{columns_text, location_text, message_text, other_text, reference_text, region_text};
 ghost use Rattle.snl_forms.specs.Forms.{related_text, result_text, rule_text, scheme_of};
 
@@ -27,7 +28,7 @@ fn put_reference(out: &mut Vec<u8>, file: &[u8]) -> Result<(), AllocError>
 
 #[tactic(auto, unfolding(crate::specs::Forms::columns_text))]
 fn put_columns(out: &mut Vec<u8>, place: Place) -> Result<(), AllocError>
-    ensures { OnOk result (out.new.items ≡ out.old.items ++ columns_text place.entry) }
+    ensures { OnOk result (out.new.items ≡ out.old.items ++ columns_text (at_of place.entry)) }
 {
     put_number(out, b", \"region\": {\"startLine\": ", place.line)?;
     put_number(out, b", \"startColumn\": ", place.column)?;
@@ -37,7 +38,7 @@ fn put_columns(out: &mut Vec<u8>, place: Place) -> Result<(), AllocError>
 }
 
 fn put_region(out: &mut Vec<u8>, place: Place) -> Result<(), AllocError>
-    ensures { OnOk result (out.new.items ≡ out.old.items ++ region_text place.entry) }
+    ensures { OnOk result (out.new.items ≡ out.old.items ++ region_text (at_of place.entry)) }
 {
     if place.line == 0 {
         Ok(())
@@ -49,7 +50,7 @@ fn put_region(out: &mut Vec<u8>, place: Place) -> Result<(), AllocError>
 // A location, up to the brace that ends it.
 #[tactic(auto, unfolding(crate::specs::Forms::location_text))]
 fn put_location(out: &mut Vec<u8>, place: Place) -> Result<(), AllocError>
-    ensures { OnOk result (out.new.items ≡ out.old.items ++ location_text place.entry) }
+    ensures { OnOk result (out.new.items ≡ out.old.items ++ location_text (at_of place.entry)) }
 {
     put_bytes(
         out,
@@ -74,7 +75,7 @@ fn put_message(out: &mut Vec<u8>, words: &[u8]) -> Result<(), AllocError>
 
 #[tactic(auto, unfolding(crate::specs::Forms::other_text))]
 fn put_other(out: &mut Vec<u8>, other: Other) -> Result<(), AllocError>
-    ensures { OnOk result (out.new.items ≡ out.old.items ++ other_text other.entry) }
+    ensures { OnOk result (out.new.items ≡ out.old.items ++ other_text (note_of other.entry)) }
 {
     put_bytes(out, b", \"relatedLocations\": [")?;
     put_location(out, other.place)?;
@@ -85,7 +86,7 @@ fn put_other(out: &mut Vec<u8>, other: Other) -> Result<(), AllocError>
 }
 
 fn put_related(out: &mut Vec<u8>, related: Option<Other>) -> Result<(), AllocError>
-    ensures { OnOk result (out.new.items ≡ out.old.items ++ related_text related.entry) }
+    ensures { OnOk result (out.new.items ≡ out.old.items ++ related_text (notes_of related.entry)) }
 {
     match related {
         Some(other) => put_other(out, other),
@@ -95,7 +96,7 @@ fn put_related(out: &mut Vec<u8>, related: Option<Other>) -> Result<(), AllocErr
 
 #[tactic(auto, unfolding(crate::specs::Forms::rule_text))]
 fn put_rule(out: &mut Vec<u8>, told: Told) -> Result<(), AllocError>
-    ensures { OnOk result (out.new.items ≡ out.old.items ++ rule_text told.entry) }
+    ensures { OnOk result (out.new.items ≡ out.old.items ++ rule_text (said_of told.entry)) }
 {
     put_bytes(out, b"{\"ruleId\": \"")?;
     put_code(out, told.code)?;
@@ -109,7 +110,7 @@ fn put_rule(out: &mut Vec<u8>, told: Told) -> Result<(), AllocError>
 /// Puts a finding as a result, with its location, and with that of the place that it is related to.
 #[tactic(auto, unfolding(crate::specs::Forms::result_text))]
 pub fn put_result(out: &mut Vec<u8>, told: Told) -> Result<(), AllocError>
-    ensures { OnOk result (out.new.items ≡ out.old.items ++ result_text told.entry) }
+    ensures { OnOk result (out.new.items ≡ out.old.items ++ result_text (said_of told.entry)) }
 {
     put_rule(out, told)?;
     put_bytes(out, b", \"locations\": [")?;

@@ -1,5 +1,5 @@
 -- The lines of one finding in a report.
-use Rattle.std.specs.Prelude.{ℕ, List, ◌++◌, codes, encode_utf8_all, length, min}
+use Rattle.std.specs.Prelude.{ℕ, List, [], ◌++◌, Option, Some, None, if◌then◌else◌, codes, length, min}
 use Rattle.snl_excerpt.specs.Columns.{bytes_before, column_after}
 use Rattle.snl_excerpt.specs.Excerpts.{excerpt, marks_of, marks_text}
 use Rattle.snl_excerpt.specs.Gutters.{blank_gutter, gutter}

@@ -16,6 +16,7 @@ use snl_related::Related;
 use std::alloc::AllocError;
 
 /// Puts the shown line of a place, and the marks under it.
+#[tactic(auto, unfolding(crate::specs::Excerpted::excerpt_text))]
 pub fn put_lines(
     out: &mut Vec<u8>,
     text: &[u8],
@@ -31,10 +32,11 @@ pub fn put_lines(
     let marks = put_excerpt(out, text, from, len)?;
     out.extend_from_slice(b"\n")?;
     put_blank_gutter(out, line)?;
-    put_marks(out, marks)
+    put_marks(out, marks)?;
+    Ok(())
 }
 
-/// After the marks of an unknown name, the name that is near it.
+/// Puts the name that is near an unknown one, after the marks of that.
 fn put_hint(out: &mut Vec<u8>, text: &[u8], related: Option<Related>) -> Result<(), AllocError>
     requires { length text.now < 2 ^ 32 }
     ensures { OnOk result (out.new.items ≡ out.old.items ++ hint_text text.now related) }
@@ -46,10 +48,12 @@ fn put_hint(out: &mut Vec<u8>, text: &[u8], related: Option<Related>) -> Result<
         return Ok(());
     }
     out.extend_from_slice(b" near:")?;
-    put_quoted(out, slice_of(text, related.span.start, related.span.len))
+    put_quoted(out, slice_of(text, related.span.start, related.span.len))?;
+    Ok(())
 }
 
 /// Puts the lines of a finding, whose place is that of the cursor.
+#[tactic(auto, unfolding(crate::specs::Blocks::block_at))]
 pub fn put_block(
     out: &mut Vec<u8>,
     name: &[u8],

@@ -2,7 +2,7 @@
 //! In: a name, and a session over the text. Out: the report, to a writer, block by block.
 //! Knows nothing of how anything is found, of files, and of the command line.
 //! `extent` says how many bytes a finding marks, `head` puts its first line, `block` the lines of
-//! one finding, `note` those of what it is related to, and `report` all of them.
+//! one finding, and `report` all of them.
 #![tactic(auto)]
 
 mod block;
@@ -11,4 +11,4 @@ mod head;
 mod note;
 mod report;
 
-pub use report::{ReportFault, report};
+pub use report::{ReportFault, write_report};

@@ -22,6 +22,7 @@ pub fn is_near(kind: RelatedKind) -> bool
 }
 
 /// The first line of a note.
+#[tactic(auto, unfolding(crate::specs::Notes::note_head))]
 fn put_note_head(
     out: &mut Vec<u8>,
     name: &[u8],
@@ -44,6 +45,7 @@ fn put_note_head(
 }
 
 /// The note at a place.
+#[tactic(auto, unfolding(crate::specs::Notes::note_at))]
 fn put_note_at(
     out: &mut Vec<u8>,
     name: &[u8],
@@ -86,5 +88,6 @@ pub fn put_note(
     }
     let from = text_start().at(text, related.span.start);
     let line = lines.line_by(text, related.span.start);
-    put_note_at(out, name, text, from, line, related)
+    put_note_at(out, name, text, from, line, related)?;
+    Ok(())
 }

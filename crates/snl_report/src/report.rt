@@ -4,11 +4,12 @@
 
 ghost use Rattle.std.specs.Prelude.{◌≡◌, ℕ, ◌^◌, ◌<◌, ◌||◌, [], ◌++◌, List, length, IfOk, OnOk, flat_map, is_err};
 ghost use Rattle.snl_excerpt.specs.Columns.{IsCursor};
+ghost use Rattle.snl_kept.specs.Diagnostics.{diagnostics_of};
+ghost use Rattle.snl_kept.specs.Kept.{IsListed};
+ghost use Rattle.snl_lex.specs.LineList.{IsLineList};
 ghost use Rattle.snl_report.specs.Blocks.{block};
 ghost use Rattle.snl_report.specs.Faults.{is_unwritten};
 ghost use Rattle.snl_report.specs.Reports.{blocks, name_line, plain_block, related_block, report_of, sum_line};
-ghost use Rattle.snl_kept.specs.Diagnostics.{diagnostics_of};
-ghost use Rattle.snl_lex.specs.LineList.{IsLineList};
 ghost use Rattle.snl_script.specs.Said.{Said, Written};
 ghost use Rattle.snl_script.specs.Watched.{failed_of, inner_of};
 
@@ -87,8 +88,8 @@ fn put_alone(
 ) -> Result<Cursor, AllocError>
     requires { IsCursor reported.text.now from }
     ensures put { OnOk result (room.new.items
-        ≡ block reported.name.now reported.text.now diagnostic.now related) }
-    ensures cursor { IfOk result (λ here. IsCursor reported.text.now here) }
+        ≡ block reported.entry.name.now reported.entry.text.now diagnostic.now related) }
+    ensures cursor { IfOk result (λ here. IsCursor reported.entry.text.now here) }
 {
     let here = from.at(reported.text, diagnostic.offset);
     room.clear();
@@ -116,8 +117,8 @@ fn say_block<W: Write>(
 ) -> Result<Cursor, ReportFault>
     requires { IsCursor reported.text.now from }
     ensures said { Said result (W.contents (inner_of out.old)) (W.contents (inner_of out.new)) page.new
-        (page.old ++ block reported.name.now reported.text.now diagnostic.now related) }
-    ensures cursor { IfOk result (λ here. IsCursor reported.text.now here) }
+        (page.old ++ block reported.entry.name.now reported.entry.text.now diagnostic.now related) }
+    ensures cursor { IfOk result (λ here. IsCursor reported.entry.text.now here) }
     ensures failed { failed_of out.new ≡ (failed_of out.old || is_unwritten result) }
 {
     let here = put_alone(room, reported, from, diagnostic, related)?;
@@ -137,9 +138,10 @@ fn say_related_block<W: Write>(
 ) -> Result<Cursor, ReportFault>
     requires cursor { IsCursor reported.text.now from }
     requires same { relations.now.items.text.now ≡ reported.text.now }
+    requires listed { IsListed relations.now.items.text.now relations.now.lists.now }
     ensures said { Said result (W.contents (inner_of out.old)) (W.contents (inner_of out.new)) page.new
-        (page.old ++ related_block reported.name.now reported.text.now diagnostic.now) }
-    ensures cursor { IfOk result (λ here. IsCursor reported.text.now here) }
+        (page.old ++ related_block reported.entry.name.now reported.entry.text.now diagnostic.now) }
+    ensures cursor { IfOk result (λ here. IsCursor reported.entry.text.now here) }
     ensures failed { failed_of out.new ≡ (failed_of out.old || is_unwritten result) }
 {
     let related = relations.related_to(diagnostic)?;
@@ -155,9 +157,10 @@ fn say_related_blocks<W: Write>(
     relations: &Relations,
     diagnostics: &[Diagnostic],
 ) -> Result<(), ReportFault>
-    requires { relations.now.items.text.now ≡ reported.text.now }
+    requires same { relations.now.items.text.now ≡ reported.text.now }
+    requires listed { IsListed relations.now.items.text.now relations.now.lists.now }
     ensures said { Said result (W.contents (inner_of out.old)) (W.contents (inner_of out.new)) page.new
-        (page.old ++ flat_map (related_block reported.name.now reported.text.now)
+        (page.old ++ flat_map (related_block reported.entry.name.now reported.entry.text.now)
         diagnostics.now) }
     ensures failed { failed_of out.new ≡ (failed_of out.old || is_unwritten result) }
 {
@@ -177,7 +180,7 @@ fn say_plain_blocks<W: Write>(
     diagnostics: &[Diagnostic],
 ) -> Result<(), ReportFault>
     ensures said { Said result (W.contents (inner_of out.old)) (W.contents (inner_of out.new)) page.new
-        (page.old ++ flat_map (plain_block reported.name.now reported.text.now)
+        (page.old ++ flat_map (plain_block reported.entry.name.now reported.entry.text.now)
         diagnostics.now) }
     ensures failed { failed_of out.new ≡ (failed_of out.old || is_unwritten result) }
 {
@@ -200,7 +203,7 @@ fn say_first_blocks<W: Write>(
 ) -> Result<(), ReportFault>
     requires { session.now ≡ reported.text.now }
     ensures said { Said result (W.contents (inner_of out.old)) (W.contents (inner_of out.new)) page.new
-        (page.old ++ flat_map (related_block reported.name.now reported.text.now)
+        (page.old ++ flat_map (related_block reported.entry.name.now reported.entry.text.now)
         diagnostics.now) }
     ensures failed { failed_of out.new ≡ (failed_of out.old || is_unwritten result) }
 {
@@ -224,11 +227,11 @@ fn say_blocks<W: Write>(
 ) -> Result<(), ReportFault>
     requires { session.now ≡ reported.text.now }
     ensures said { Said result (W.contents (inner_of out.old)) (W.contents (inner_of out.new)) page.new
-        (page.old ++ blocks reported.name.now reported.text.now (diagnostics_of session.now)) }
+        (page.old ++ blocks reported.entry.name.now reported.entry.text.now (diagnostics_of session.now)) }
     ensures failed { failed_of out.new ≡ (failed_of out.old || is_unwritten result) }
 {
     let all = session.diagnostics();
-    let (first, others) = all.split_at(all.len().min(MOST_RELATED));
+    let (first, others) = all.split_at(MOST_RELATED.min(all.len()));
     say_first_blocks(alloc, page, out, room, reported, session, first)?;
     say_plain_blocks(page, out, room, reported, others)
 }
@@ -265,6 +268,7 @@ fn say_sum<W: Write>(
 }
 
 /// Says the report of a session's text.
+#[tactic(auto, unfolding(crate::specs::Reports::report_of))]
 fn say_report<W: Write>(
     alloc: Global,
     page: &mut Page,
@@ -284,11 +288,12 @@ fn say_report<W: Write>(
         lines: &session.kept().lists.lines,
     };
     say_blocks(alloc, page, out, room, reported, session)?;
-    say_sum(page, out, room, name, session.errors(), session.warnings())
+    say_sum(page, out, room, name, session.errors(), session.warnings())?;
+    Ok(())
 }
 
 /// Writes the report of a session's text, by the name that it is to have.
-pub fn report<W: Write>(
+pub fn write_report<W: Write>(
     alloc: Global,
     out: &mut Watched<W>,
     name: &[u8],

@@ -1,16 +1,8 @@
-use Rattle.std.proofs.Common.{drop, List, ℕ}
-use Rattle.snl_excerpt.specs.Excerpts.{back_line, excerpt, front_line, marks_of}
-use Rattle.snl_excerpt.specs.Glyphs.{text_width}
-use Rattle.snl_excerpt.proofs.ShownLemmas.{put_two}
+use Rattle.snl_excerpt.proofs.ExcerptLemmas.{excerpt_made, marks_made}
 use Rattle.snl_excerpt.proofs.excerpt.put_excerpt.Goals as goal
 
 pub returns-clause-put : goal.returns-clause-put
-unfolding excerpt
-returns-clause-put c =
-    let front : List ℕ = front_line c.args.text.now c.args.from.offset c.args.from.before in
-    let e = put_two c.args.out.now.items front (back_line (text_width front) (drop c.args.from.offset c.args.text.now) c.args.len) in
-    cc
+returns-clause-put c = excerpt_made c.args.text.now c.args.out.now.items _ _ _ c.args.from.offset c.args.from.before c.args.len _ c.in_ok-start.ensures.column c.rest_of-bytes.ensures c.in_ok-start.ensures.put c.in_ok-stop.ensures.put
 
 pub returns-clause-marks : goal.returns-clause-marks
-unfolding marks_of
-returns-clause-marks c = cc
+returns-clause-marks c = marks_made c.args.text.now _ c.args.from.offset c.args.from.before c.args.len _ _ c.in_ok-start.ensures.column c.rest_of-bytes.ensures c.in_ok-stop.ensures.column

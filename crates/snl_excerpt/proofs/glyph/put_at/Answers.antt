@@ -1,7 +1,7 @@
-use Rattle.std.proofs.Common.{◌≡◌, ◌<◌, ◌++◌, ℕ, List, arith, sym, ap, ◌∙◌}
+use Rattle.std.proofs.Common.{◌<◌, ◌++◌, ℕ, List, arith, sym, ap, ◌∙◌}
 use Rattle.std.specs.Prelude.{encode_utf8_all}
 use Rattle.std.proofs.lemmas.List.{append-nil}
-use Rattle.snl_excerpt.proofs.ShownLemmas.{pen_inside, pen_outside, put_inside, put_outside}
+use Rattle.snl_excerpt.proofs.ShownLemmas.{pen_inside, pen_made, put_inside, put_made}
 use Rattle.snl_excerpt.proofs.glyph.put_at.Goals as goal
 
 pub returns-then-pen-gt0-clause-put : goal.returns-then-pen-gt0-clause-put
@@ -15,13 +15,7 @@ returns-then-pen-gt0-clause-pen c =
     sym (pen_inside c.args.pen c.args.bytes.now some)
 
 pub returns-clause-put : goal.returns-clause-put
-returns-clause-put c =
-    let none : c.args.pen.inside ≡ 0 = omega arith in
-    let e = put_outside c.args.pen c.args.bytes.now none in
-    cc
+returns-clause-put c = put_made c.args.pen c.args.bytes.now _ _ _ (omega arith) c.decode-char.ensures.char c.in_ok-column.ensures.put
 
 pub returns-clause-pen : goal.returns-clause-pen
-returns-clause-pen c =
-    let none : c.args.pen.inside ≡ 0 = omega arith in
-    let e = pen_outside c.args.pen c.args.bytes.now none in
-    cc
+returns-clause-pen c = pen_made c.args.pen c.args.bytes.now _ _ _ _ (omega arith) c.decode-char.ensures.char c.decode-char.ensures.size c.tail_of.ensures c.in_ok-column.ensures.column

@@ -1,6 +1,6 @@
 use Rattle.std.specs.Prelude.{codes}
 use Rattle.snl_codes.specs.Codes.{name_of}
-use Rattle.snl_forms.specs.Forms.{finding_text, level_of, string_text}
+use Rattle.snl_forms.specs.Forms.{finding_text, level_of}
 use Rattle.snl_forms.proofs.Then.{and_then}
 use Rattle.snl_forms.proofs.json.put_finding.Goals as goal
 

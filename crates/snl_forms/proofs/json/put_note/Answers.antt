@@ -1,5 +1,5 @@
 use Rattle.std.specs.Prelude.{codes}
-use Rattle.snl_forms.specs.Forms.{members_text, note_text, string_text}
+use Rattle.snl_forms.specs.Forms.{at_of, members_text, note_text, string_text}
 use Rattle.snl_forms.proofs.Then.{and_then}
 use Rattle.snl_forms.proofs.json.put_note.Goals as goal
 
@@ -10,7 +10,7 @@ returns c =
     (codes ",\"notes\":[{") _
     c.in_ok-put_bytes.ensures
     (and_then c.put_bytes.new.out.items _ _
-    (members_text c.args.other.place) _
+    (members_text (at_of c.args.other.place)) _
     c.in_ok-put_members.ensures
     (and_then c.put_members.new.out.items _ _
     (codes ",\"message\":") _

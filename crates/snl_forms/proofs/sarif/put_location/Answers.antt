@@ -1,5 +1,5 @@
 use Rattle.std.specs.Prelude.{codes}
-use Rattle.snl_forms.specs.Forms.{location_text, reference_text, region_text}
+use Rattle.snl_forms.specs.Forms.{at_of, location_text, reference_text, region_text}
 use Rattle.snl_forms.proofs.Then.{and_then}
 use Rattle.snl_forms.proofs.sarif.put_location.Goals as goal
 
@@ -16,6 +16,6 @@ returns c =
     (codes "\"}") _
     c.in_ok-put_bytes-2.ensures
     (and_then c.put_bytes-2.new.out.items _ _
-    (region_text c.args.place) _
+    (region_text (at_of c.args.place)) _
     c.in_ok-put_region.ensures
     (c.in_ok-put_bytes-3.ensures))))

@@ -1,5 +1,5 @@
 use Rattle.std.specs.Prelude.{codes}
-use Rattle.snl_forms.specs.Forms.{location_text, message_text, other_text}
+use Rattle.snl_forms.specs.Forms.{at_of, location_text, message_text, other_text}
 use Rattle.snl_forms.proofs.Then.{and_then}
 use Rattle.snl_forms.proofs.sarif.put_other.Goals as goal
 
@@ -10,7 +10,7 @@ returns c =
     (codes ", \"relatedLocations\": [") _
     c.in_ok-put_bytes.ensures
     (and_then c.put_bytes.new.out.items _ _
-    (location_text c.args.other.place) _
+    (location_text (at_of c.args.other.place)) _
     c.in_ok-put_location.ensures
     (and_then c.put_location.new.out.items _ _
     (codes ", ") _

@@ -1,6 +1,6 @@
 use Rattle.std.specs.Prelude.{codes}
 use Rattle.snl_codes.specs.Codes.{name_of}
-use Rattle.snl_forms.specs.Forms.{level_of, message_text, rule_text}
+use Rattle.snl_forms.specs.Forms.{level_of, rule_text}
 use Rattle.snl_forms.proofs.Then.{and_then}
 use Rattle.snl_forms.proofs.sarif.put_rule.Goals as goal
 
