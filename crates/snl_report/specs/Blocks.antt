@@ -1,14 +1,12 @@
 -- The lines of one finding in a report.
 use Rattle.std.specs.Prelude.{ℕ, List, [], ◌++◌, Option, Some, None, if◌then◌else◌, codes, length, min}
-use Rattle.snl_excerpt.specs.Columns.{bytes_before, column_after}
-use Rattle.snl_excerpt.specs.Excerpts.{excerpt, marks_of, marks_text}
-use Rattle.snl_excerpt.specs.Gutters.{blank_gutter, gutter}
+use Rattle.snl_excerpt.specs.Columns.{column_after}
 use Rattle.snl_kept.specs.declared.found.findings.Diagnostic.{Diagnostic}
 use Rattle.snl_related.specs.declared.related.Related.{Related}
 use Rattle.snl_report.specs.Extents.{extent}
 use Rattle.snl_report.specs.Excerpted.{excerpt_text}
 use Rattle.snl_report.specs.Heads.{head_text, quoted_shown}
-use Rattle.snl_report.specs.Notes.{is_near, note_text}
+use Rattle.snl_report.specs.Notes.{is_near}
 use Rattle.snl_script.specs.Parts.{slice_of}
 
 -- After the marks of an unknown name, the name that is near it: ` near: 'NAME'`.
@@ -34,9 +32,3 @@ block_at name text place before d related =
 -- The place of a finding: its offset, or the end of the text.
 abbrev pub place_of : (text : List ℕ) → Diagnostic → ℕ
 place_of text d = min d.offset (length text)
-
--- The block of a finding, and the note after it.
-abbrev pub block : (name text : List ℕ) → Diagnostic → Option Related → List ℕ
-block name text d related =
-    block_at name text (place_of text d) (bytes_before text (place_of text d)) d related
-    ++ note_text name text related

@@ -7,8 +7,12 @@
 
 mod block;
 mod extent;
+mod form;
+mod formed;
 mod head;
 mod note;
 mod report;
+mod reported;
 
+pub use form::Form;
 pub use report::{ReportFault, write_report};

@@ -6,18 +6,19 @@ ghost use Rattle.std.specs.Prelude.{◌≡◌, ℕ, ◌^◌, ◌<◌, ◌||◌, 
 ghost use Rattle.snl_excerpt.specs.Columns.{IsCursor};
 ghost use Rattle.snl_kept.specs.Diagnostics.{diagnostics_of};
 ghost use Rattle.snl_kept.specs.Kept.{IsListed};
-ghost use Rattle.snl_lex.specs.LineList.{IsLineList};
-ghost use Rattle.snl_report.specs.Blocks.{block};
 ghost use Rattle.snl_report.specs.Faults.{is_unwritten};
+ghost use Rattle.snl_report.specs.Formed.{formed, formed_at};
 ghost use Rattle.snl_report.specs.Reports.{blocks, name_line, plain_block, related_block, report_of, sum_line};
 ghost use Rattle.snl_script.specs.Said.{Said, Written};
 ghost use Rattle.snl_script.specs.Watched.{failed_of, inner_of};
 
 use crate::block::put_block;
+use crate::form::Form;
+use crate::formed::put_formed;
 use crate::note::put_note;
+use crate::reported::Reported;
 use snl_cut::OutOfMemory;
 use snl_excerpt::{Cursor, put_shown, text_start};
-use snl_lex::LineList;
 use snl_questions::all_tokens;
 use snl_related::{Related, Relations};
 use snl_script::{Page, Watched, WriteFault, put_sum};
@@ -67,19 +68,40 @@ impl From<OutOfMemory> for ReportFault {
     }
 }
 
-/// A text that is reported on: its name, its bytes and its lines.
-#[derive(Clone, Copy)]
-struct Reported<'a> {
-    name: &'a [u8],
-    text: &'a [u8],
-    lines: &'a LineList,
-    ghost short_name: { length name.now < 2 ^ 32 },
-    ghost short_text: { length text.now < 2 ^ 32 },
-    ghost own_lines: { IsLineList text.now lines.now },
+/// Puts a finding in the form that is asked for.
+fn put_finding(
+    alloc: Global,
+    room: &mut Vec<u8>,
+    reported: Reported,
+    from: Cursor,
+    diagnostic: &Diagnostic,
+    related: Option<Related>,
+) -> Result<(), AllocError>
+    requires { IsCursor reported.text.now from }
+    ensures { OnOk result (room.new.items ≡ room.old.items ++ formed_at reported.entry.form
+        reported.entry.name.now reported.entry.text.now from.offset from.before
+        diagnostic.now related) }
+{
+    match reported.form {
+        Form::Report => {
+            put_block(
+                room,
+                reported.name,
+                reported.text,
+                from,
+                diagnostic,
+                related,
+            )?;
+            put_note(room, reported.name, reported.text, reported.lines, related)?;
+            Ok(())
+        }
+        _ => put_formed(alloc, room, reported, from, diagnostic, related),
+    }
 }
 
-/// The block of a finding, alone in a room that may hold others.
+/// A finding in its form, alone in a room that may hold others.
 fn put_alone(
+    alloc: Global,
     room: &mut Vec<u8>,
     reported: Reported,
     from: Cursor,
@@ -87,26 +109,19 @@ fn put_alone(
     related: Option<Related>,
 ) -> Result<Cursor, AllocError>
     requires { IsCursor reported.text.now from }
-    ensures put { OnOk result (room.new.items
-        ≡ block reported.entry.name.now reported.entry.text.now diagnostic.now related) }
+    ensures put { OnOk result (room.new.items ≡ formed reported.entry.form
+        reported.entry.name.now reported.entry.text.now diagnostic.now related) }
     ensures cursor { IfOk result (λ here. IsCursor reported.entry.text.now here) }
 {
     let here = from.at(reported.text, diagnostic.offset);
     room.clear();
-    put_block(
-        room,
-        reported.name,
-        reported.text,
-        here,
-        diagnostic,
-        related,
-    )?;
-    put_note(room, reported.name, reported.text, reported.lines, related)?;
+    put_finding(alloc, room, reported, here, diagnostic, related)?;
     Ok(here)
 }
 
 /// Says the block of a finding, and tells its place.
 fn say_block<W: Write>(
+    alloc: Global,
     page: &mut Page,
     out: &mut Watched<W>,
     room: &mut Vec<u8>,
@@ -117,17 +132,18 @@ fn say_block<W: Write>(
 ) -> Result<Cursor, ReportFault>
     requires { IsCursor reported.text.now from }
     ensures said { Said result (W.contents (inner_of out.old)) (W.contents (inner_of out.new)) page.new
-        (page.old ++ block reported.entry.name.now reported.entry.text.now diagnostic.now related) }
+        (page.old ++ formed reported.entry.form reported.entry.name.now reported.entry.text.now diagnostic.now related) }
     ensures cursor { IfOk result (λ here. IsCursor reported.entry.text.now here) }
     ensures failed { failed_of out.new ≡ (failed_of out.old || is_unwritten result) }
 {
-    let here = put_alone(room, reported, from, diagnostic, related)?;
+    let here = put_alone(alloc, room, reported, from, diagnostic, related)?;
     page.put(out, room.as_slice())?;
     Ok(here)
 }
 
 /// Says the block of a finding with what it is related to.
 fn say_related_block<W: Write>(
+    alloc: Global,
     page: &mut Page,
     out: &mut Watched<W>,
     room: &mut Vec<u8>,
@@ -140,16 +156,17 @@ fn say_related_block<W: Write>(
     requires same { relations.now.items.text.now ≡ reported.text.now }
     requires listed { IsListed relations.now.items.text.now relations.now.lists.now }
     ensures said { Said result (W.contents (inner_of out.old)) (W.contents (inner_of out.new)) page.new
-        (page.old ++ related_block reported.entry.name.now reported.entry.text.now diagnostic.now) }
+        (page.old ++ related_block reported.entry.form reported.entry.name.now reported.entry.text.now diagnostic.now) }
     ensures cursor { IfOk result (λ here. IsCursor reported.entry.text.now here) }
     ensures failed { failed_of out.new ≡ (failed_of out.old || is_unwritten result) }
 {
     let related = relations.related_to(diagnostic)?;
-    say_block(page, out, room, reported, from, diagnostic, related)
+    say_block(alloc, page, out, room, reported, from, diagnostic, related)
 }
 
 /// Says the blocks of diagnostics, each with what it is related to.
 fn say_related_blocks<W: Write>(
+    alloc: Global,
     page: &mut Page,
     out: &mut Watched<W>,
     room: &mut Vec<u8>,
@@ -160,19 +177,22 @@ fn say_related_blocks<W: Write>(
     requires same { relations.now.items.text.now ≡ reported.text.now }
     requires listed { IsListed relations.now.items.text.now relations.now.lists.now }
     ensures said { Said result (W.contents (inner_of out.old)) (W.contents (inner_of out.new)) page.new
-        (page.old ++ flat_map (related_block reported.entry.name.now reported.entry.text.now)
+        (page.old ++ flat_map (related_block reported.entry.form reported.entry.name.now reported.entry.text.now)
         diagnostics.now) }
     ensures failed { failed_of out.new ≡ (failed_of out.old || is_unwritten result) }
 {
     let mut from = text_start();
     for diagnostic in diagnostics {
-        from = say_related_block(page, out, room, reported, relations, from, diagnostic)?;
+        from = say_related_block(
+            alloc, page, out, room, reported, relations, from, diagnostic,
+        )?;
     }
     Ok(())
 }
 
 /// Says the blocks of diagnostics alone.
 fn say_plain_blocks<W: Write>(
+    alloc: Global,
     page: &mut Page,
     out: &mut Watched<W>,
     room: &mut Vec<u8>,
@@ -180,13 +200,13 @@ fn say_plain_blocks<W: Write>(
     diagnostics: &[Diagnostic],
 ) -> Result<(), ReportFault>
     ensures said { Said result (W.contents (inner_of out.old)) (W.contents (inner_of out.new)) page.new
-        (page.old ++ flat_map (plain_block reported.entry.name.now reported.entry.text.now)
+        (page.old ++ flat_map (plain_block reported.entry.form reported.entry.name.now reported.entry.text.now)
         diagnostics.now) }
     ensures failed { failed_of out.new ≡ (failed_of out.old || is_unwritten result) }
 {
     let mut from = text_start();
     for diagnostic in diagnostics {
-        from = say_block(page, out, room, reported, from, diagnostic, None)?;
+        from = say_block(alloc, page, out, room, reported, from, diagnostic, None)?;
     }
     Ok(())
 }
@@ -203,7 +223,7 @@ fn say_first_blocks<W: Write>(
 ) -> Result<(), ReportFault>
     requires { session.now ≡ reported.text.now }
     ensures said { Said result (W.contents (inner_of out.old)) (W.contents (inner_of out.new)) page.new
-        (page.old ++ flat_map (related_block reported.entry.name.now reported.entry.text.now)
+        (page.old ++ flat_map (related_block reported.entry.form reported.entry.name.now reported.entry.text.now)
         diagnostics.now) }
     ensures failed { failed_of out.new ≡ (failed_of out.old || is_unwritten result) }
 {
@@ -213,7 +233,7 @@ fn say_first_blocks<W: Write>(
     let lists = &session.kept().lists;
     let tokens = all_tokens(alloc, &lists.pieces)?;
     let relations = Relations::of_text(alloc, reported.text, lists, &tokens);
-    say_related_blocks(page, out, room, reported, &relations, diagnostics)
+    say_related_blocks(alloc, page, out, room, reported, &relations, diagnostics)
 }
 
 /// Says the blocks of all diagnostics.
@@ -227,13 +247,13 @@ fn say_blocks<W: Write>(
 ) -> Result<(), ReportFault>
     requires { session.now ≡ reported.text.now }
     ensures said { Said result (W.contents (inner_of out.old)) (W.contents (inner_of out.new)) page.new
-        (page.old ++ blocks reported.entry.name.now reported.entry.text.now (diagnostics_of session.now)) }
+        (page.old ++ blocks reported.entry.form reported.entry.name.now reported.entry.text.now (diagnostics_of session.now)) }
     ensures failed { failed_of out.new ≡ (failed_of out.old || is_unwritten result) }
 {
     let all = session.diagnostics();
     let (first, others) = all.split_at(MOST_RELATED.min(all.len()));
     say_first_blocks(alloc, page, out, room, reported, session, first)?;
-    say_plain_blocks(page, out, room, reported, others)
+    say_plain_blocks(alloc, page, out, room, reported, others)
 }
 
 /// The name of the text and a colon, alone in a room that may hold other bytes.
@@ -274,15 +294,17 @@ fn say_report<W: Write>(
     page: &mut Page,
     out: &mut Watched<W>,
     room: &mut Vec<u8>,
+    form: Form,
     name: &[u8],
     session: &Session,
 ) -> Result<(), ReportFault>
     requires { length name.now < 2 ^ 32 }
     ensures said { Said result (W.contents (inner_of out.old)) (W.contents (inner_of out.new)) page.new
-        (page.old ++ report_of name.now session.now) }
+        (page.old ++ report_of form name.now session.now) }
     ensures failed { failed_of out.new ≡ (failed_of out.old || is_unwritten result) }
 {
     let reported = Reported {
+        form,
         name,
         text: session.text(),
         lines: &session.kept().lists.lines,
@@ -296,17 +318,18 @@ fn say_report<W: Write>(
 pub fn write_report<W: Write>(
     alloc: Global,
     out: &mut Watched<W>,
+    form: Form,
     name: &[u8],
     session: &Session,
 ) -> Result<(), ReportFault>
     requires { length name.now < 2 ^ 32 }
     ensures written { Written result (W.contents (inner_of out.old)) (W.contents (inner_of out.new))
-        (report_of name.now session.now) }
+        (report_of form name.now session.now) }
     ensures failed { failed_of out.new ≡ (failed_of out.old || is_unwritten result) }
 {
     let mut page = Page::new();
     let mut room = Vec::new(alloc);
-    say_report(alloc, &mut page, out, &mut room, name, session)?;
+    say_report(alloc, &mut page, out, &mut room, form, name, session)?;
     page.finish(out)?;
     Ok(())
 }

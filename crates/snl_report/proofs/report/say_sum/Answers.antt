@@ -1,4 +1,3 @@
-use Rattle.std.proofs.Common.{◌≡◌}
 use Rattle.snl_script.specs.SaidLaws.{AppendsPart-on, AppendsPart-same, Said-err, Said-part, Says-on, Says-same}
 use Rattle.snl_report.proofs.ReportLemmas.{sum_made}
 use Rattle.snl_report.proofs.report.say_sum.Goals as goal

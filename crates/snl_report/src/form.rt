@@ -1,0 +1,13 @@
+//! The forms of findings.
+
+/// How findings are written: as blocks with their lines, or each on a line that other programs read.
+#[derive(Clone, Copy, Debug, PartialEq, Eq)]
+pub enum Form {
+    Report,
+    /// Objects of JSON.
+    Json,
+    /// Annotations in a workflow of GitHub.
+    Github,
+    /// Results of SARIF.
+    Sarif,
+}
