@@ -4,7 +4,7 @@ use Rattle.std.specs.Prelude.{flat_map, min}
 use Rattle.std.proofs.lemmas.List.{drop_min, take_min}
 use Rattle.snl_kept.specs.declared.found.findings.Diagnostic.{Diagnostic}
 use Rattle.snl_kept.specs.Diagnostics.{diagnostics_of, errors_of, warnings_of}
-use Rattle.snl_report.specs.declared.form.Form.{Form}
+use Rattle.snl_report.specs.declared.form.Style.{Style}
 use Rattle.snl_report.specs.Reports.{blocks, most_related, name_line, plain_block, related_block, report_of, sum_line}
 use Rattle.snl_script.specs.Parts.{sum_text}
 
@@ -13,30 +13,30 @@ pub sum_made : (page said room name : List ℕ) (errors warnings : ℕ) → said
 sum_made page said room name errors warnings s r = rw (s, r) (append_assoc page (name_line name) (sum_text errors warnings))
 
 -- the blocks, and then the sum
-pub report_made : (form : Form) (page name text session : List ℕ) (errors warnings : ℕ) → text ≡ session →
+pub report_made : (style : Style) (page name text session : List ℕ) (errors warnings : ℕ) → text ≡ session →
     errors ≡ errors_of session → warnings ≡ warnings_of session →
-    (page ++ blocks form name text (diagnostics_of session)) ++ sum_line name errors warnings
-    ≡ page ++ report_of form name session
+    (page ++ blocks style name text (diagnostics_of session)) ++ sum_line name errors warnings
+    ≡ page ++ report_of style name session
 unfolding report_of
-report_made form page name text session errors warnings t e w = rw (t, e, w)
-    (append_assoc page (blocks form name session (diagnostics_of session))
+report_made style page name text session errors warnings t e w = rw (t, e, w)
+    (append_assoc page (blocks style name session (diagnostics_of session))
     (sum_line name (errors_of session) (warnings_of session)))
 
 -- the blocks of the first diagnostics, and those of the others
-pub blocks_made : (form : Form) (page name text : List ℕ) (count : ℕ) (first others all found : List Diagnostic) →
+pub blocks_made : (style : Style) (page name text : List ℕ) (count : ℕ) (first others all found : List Diagnostic) →
     count ≡ min most_related (length all) → first ≡ take count all → others ≡ drop count all →
     all ≡ found →
-    (page ++ flat_map (related_block form name text) first) ++ flat_map (plain_block form name text) others
-    ≡ page ++ blocks form name text found
-blocks_made form page name text count first others all found c f o is =
+    (page ++ flat_map (related_block style name text) first) ++ flat_map (plain_block style name text) others
+    ≡ page ++ blocks style name text found
+blocks_made style page name text count first others all found c f o is =
     let front : first ≡ take most_related all =
     f ∙ ap (λ (n : ℕ). take n all) c ∙ take_min most_related all in
     let back : others ≡ drop most_related all =
     o ∙ ap (λ (n : ℕ). drop n all) c ∙ drop_min most_related all in
     rw (front, back)
-    (append_assoc page (flat_map (related_block form name text) (take most_related all))
-    (flat_map (plain_block form name text) (drop most_related all)))
-    ∙ ap (λ (ds : List Diagnostic). page ++ blocks form name text ds) is
+    (append_assoc page (flat_map (related_block style name text) (take most_related all))
+    (flat_map (plain_block style name text) (drop most_related all)))
+    ∙ ap (λ (ds : List Diagnostic). page ++ blocks style name text ds) is
 
 -- on an empty page
 pub page_made : (page bytes : List ℕ) → page ≡ [] → page ++ bytes ≡ bytes

@@ -4,7 +4,8 @@ use Rattle.snl_excerpt.specs.Columns.{column_after}
 use Rattle.snl_kept.specs.declared.found.findings.Diagnostic.{Diagnostic}
 use Rattle.snl_related.specs.declared.related.Related.{Related}
 use Rattle.snl_report.specs.Extents.{extent}
-use Rattle.snl_report.specs.Excerpted.{excerpt_text}
+use Rattle.snl_report.specs.declared.paint.Paint.{Paint}
+use Rattle.snl_report.specs.Excerpted.{excerpt_end, excerpt_text}
 use Rattle.snl_report.specs.Heads.{head_text, quoted_shown}
 use Rattle.snl_report.specs.Notes.{is_near}
 use Rattle.snl_script.specs.Parts.{slice_of}
@@ -22,12 +23,12 @@ hint_text text (Some r) = hint_by text r
 
 -- The block of a finding, by its place, how many bytes of the line are before it, and what it is
 -- related to.
-unfoldable pub block_at : (name text : List ℕ) → (place before : ℕ) → Diagnostic → Option Related →
-    List ℕ
-block_at name text place before d related =
-    head_text name text (column_after before) d
-    ++ (excerpt_text text place before d.line (extent text place d.subject)
-    ++ (hint_text text related ++ codes "\n"))
+unfoldable pub block_at : Paint → (name text : List ℕ) → (place before : ℕ) → Diagnostic →
+    Option Related → List ℕ
+block_at paint name text place before d related =
+    head_text paint name text (column_after before) d
+    ++ (excerpt_text paint text place before d.line (extent text place d.subject)
+    ++ (hint_text text related ++ excerpt_end paint))
 
 -- The place of a finding: its offset, or the end of the text.
 abbrev pub place_of : (text : List ℕ) → Diagnostic → ℕ

@@ -11,7 +11,9 @@ use Rattle.snl_related.specs.declared.related.Related.{Related}
 use Rattle.snl_related.specs.Related.{words_of}
 use Rattle.snl_script.specs.Parts.{quoted, slice_of}
 use Rattle.snl_report.specs.declared.form.Form.{Form}
+use Rattle.snl_report.specs.declared.form.Style.{Style}
 use Rattle.snl_report.specs.declared.form.Form.TheVariants as form
+use Rattle.snl_report.specs.declared.paint.Paint.{Paint}
 use Rattle.snl_report.specs.Blocks.{block_at, place_of}
 use Rattle.snl_report.specs.Extents.{extent}
 use Rattle.snl_report.specs.Notes.{note_place, note_text}
@@ -81,17 +83,17 @@ line_of form.Github said = annotation_text said
 line_of form.Sarif said = result_text said
 
 -- A finding in a form: its block in a report, and else its line.
-abbrev pub formed_at : Form → (name text : List ℕ) → (place before : ℕ) → Diagnostic →
+abbrev pub formed_at : Paint → Form → (name text : List ℕ) → (place before : ℕ) → Diagnostic →
     Option Related → List ℕ
-formed_at form.Report name text place before d related =
-    block_at name text place before d related ++ note_text name text related
-formed_at form.Json name text place before d related =
+formed_at paint form.Report name text place before d related =
+    block_at paint name text place before d related ++ note_text paint name text related
+formed_at paint form.Json name text place before d related =
     line_of form.Json (said_at form.Json name text place before d related)
-formed_at form.Github name text place before d related =
+formed_at paint form.Github name text place before d related =
     line_of form.Github (said_at form.Github name text place before d related)
-formed_at form.Sarif name text place before d related =
+formed_at paint form.Sarif name text place before d related =
     line_of form.Sarif (said_at form.Sarif name text place before d related)
 
-abbrev pub formed : Form → (name text : List ℕ) → Diagnostic → Option Related → List ℕ
-formed form name text d related =
-    formed_at form name text (place_of text d) (bytes_before text (place_of text d)) d related
+abbrev pub formed : Style → (name text : List ℕ) → Diagnostic → Option Related → List ℕ
+formed style name text d related = formed_at style.paint style.form name text
+    (place_of text d) (bytes_before text (place_of text d)) d related

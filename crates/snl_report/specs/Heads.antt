@@ -3,6 +3,9 @@ use Rattle.std.specs.Prelude.{ℕ, List, [], ◌∷◌, ◌++◌, Option, Some, 
 use Rattle.snl_excerpt.specs.Lines.{shown_bytes}
 use Rattle.snl_kept.specs.declared.found.findings.Diagnostic.{Diagnostic}
 use Rattle.snl_kept.specs.Diagnostics.{message_of, name_of}
+use Rattle.snl_report.specs.declared.paint.Paint.{Paint}
+use Rattle.snl_report.specs.declared.paint.Part.TheVariants.{Place}
+use Rattle.snl_report.specs.Paints.{off, on, part_of}
 use Rattle.snl_script.specs.Parts.{slice_of}
 
 -- The name of a line's file, which a line marker of the text says, or else that of the text.
@@ -20,12 +23,14 @@ quoted_shown [] = []
 quoted_shown (b ∷ bytes) = codes " '" ++ (shown_bytes (b ∷ bytes) ++ codes "'")
 
 -- `CODE MESSAGE`, what it quotes, and LF.
-unfoldable pub finding_text : (text : List ℕ) → Diagnostic → List ℕ
-finding_text text d =
-    name_of d.code ++ (codes " " ++ (message_of d.code
-    ++ (quoted_shown (slice_of text d.offset d.subject) ++ codes "\n")))
+unfoldable pub finding_text : Paint → (text : List ℕ) → Diagnostic → List ℕ
+finding_text paint text d =
+    on paint (part_of d.code) ++ (name_of d.code ++ (off paint
+    ++ (codes " " ++ (message_of d.code
+    ++ (quoted_shown (slice_of text d.offset d.subject) ++ codes "\n")))))
 
 -- `NAME:LINE:COLUMN: CODE MESSAGE 'BYTES'`.
-unfoldable pub head_text : (name text : List ℕ) → (column : ℕ) → Diagnostic → List ℕ
-head_text name text column d =
-    name_shown name text d.file ++ (place_text d.line column ++ finding_text text d)
+unfoldable pub head_text : Paint → (name text : List ℕ) → (column : ℕ) → Diagnostic → List ℕ
+head_text paint name text column d =
+    on paint Place ++ (name_shown name text d.file ++ (place_text d.line column
+    ++ (off paint ++ finding_text paint text d)))

@@ -5,4 +5,5 @@ pub mod Faults
 pub mod Formed
 pub mod Heads
 pub mod Notes
+pub mod Paints
 pub mod Reports

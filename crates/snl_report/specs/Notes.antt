@@ -7,35 +7,44 @@ use Rattle.snl_related.specs.declared.related.Related.{Related}
 use Rattle.snl_related.specs.declared.related.RelatedKind.{RelatedKind}
 use Rattle.snl_related.specs.declared.related.RelatedKind.TheVariants as kinds
 use Rattle.snl_related.specs.Related.{words_of}
-use Rattle.snl_report.specs.Excerpted.{excerpt_text}
+use Rattle.snl_report.specs.declared.paint.Paint.{Paint}
+use Rattle.snl_report.specs.declared.paint.Part.TheVariants as kind
+use Rattle.snl_report.specs.declared.paint.Part.TheVariants.{Place}
+use Rattle.snl_report.specs.Excerpted.{excerpt_end, excerpt_text}
 use Rattle.snl_report.specs.Heads.{name_shown, place_text}
+use Rattle.snl_report.specs.Paints.{off, on}
 
 -- A near name is told beside the marks, and has no note.
 abbrev pub is_near : RelatedKind → Bool
 is_near kinds.Near = true
 is_near _ = false
 
+-- `note: `.
+unfoldable pub note_word : Paint → List ℕ
+note_word paint = on paint kind.Note ++ (codes "note: " ++ off paint)
+
 -- `NAME:LINE:COLUMN: note: WORDS`.
-unfoldable pub note_head : (name text : List ℕ) → Line → (column : ℕ) → List ℕ → List ℕ
-note_head name text line column words =
-    name_shown name text line.file
-    ++ (place_text line.number column ++ (codes "note: " ++ (words ++ codes "\n")))
+unfoldable pub note_head : Paint → (name text : List ℕ) → Line → (column : ℕ) → List ℕ → List ℕ
+note_head paint name text line column words =
+    on paint Place ++ (name_shown name text line.file
+    ++ (place_text line.number column ++ (off paint
+    ++ (note_word paint ++ (words ++ codes "\n")))))
 
 -- The note at a place that has so many bytes of its line before it.
-unfoldable pub note_at : (name text : List ℕ) → (place before : ℕ) → Line → Related → List ℕ
-note_at name text place before line r =
-    note_head name text line (column_after before) (words_of r.kind)
-    ++ (excerpt_text text place before line.number r.span.len ++ codes "\n")
+unfoldable pub note_at : Paint → (name text : List ℕ) → (place before : ℕ) → Line → Related → List ℕ
+note_at paint name text place before line r =
+    note_head paint name text line (column_after before) (words_of r.kind)
+    ++ (excerpt_text paint text place before line.number r.span.len ++ excerpt_end paint)
 
 abbrev pub note_place : (text : List ℕ) → Related → ℕ
 note_place text r = min r.span.start (length text)
 
-abbrev pub note_by : (name text : List ℕ) → Related → List ℕ
-note_by name text r =
+abbrev pub note_by : Paint → (name text : List ℕ) → Related → List ℕ
+note_by paint name text r =
     if is_near r.kind then []
-    else note_at name text (note_place text r) (bytes_before text (note_place text r))
+    else note_at paint name text (note_place text r) (bytes_before text (note_place text r))
     (line_at text r.span.start) r
 
-abbrev pub note_text : (name text : List ℕ) → Option Related → List ℕ
-note_text name text None = []
-note_text name text (Some r) = note_by name text r
+abbrev pub note_text : Paint → (name text : List ℕ) → Option Related → List ℕ
+note_text paint name text None = []
+note_text paint name text (Some r) = note_by paint name text r

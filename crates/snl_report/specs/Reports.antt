@@ -4,7 +4,7 @@ use Rattle.snl_excerpt.specs.Lines.{shown_bytes}
 use Rattle.snl_kept.specs.declared.found.findings.Diagnostic.{Diagnostic}
 use Rattle.snl_kept.specs.Diagnostics.{diagnostics_of, errors_of, warnings_of}
 use Rattle.snl_related.specs.Related.{related_to}
-use Rattle.snl_report.specs.declared.form.Form.{Form}
+use Rattle.snl_report.specs.declared.form.Style.{Style}
 use Rattle.snl_report.specs.Formed.{formed}
 use Rattle.snl_script.specs.Parts.{sum_text}
 
@@ -19,19 +19,19 @@ sum_line name errors warnings = name_line name ++ sum_text errors warnings
 abbrev pub most_related : ℕ
 most_related = 100
 
-abbrev pub related_block : Form → (name text : List ℕ) → Diagnostic → List ℕ
-related_block form name text d = formed form name text d (related_to text d)
+abbrev pub related_block : Style → (name text : List ℕ) → Diagnostic → List ℕ
+related_block style name text d = formed style name text d (related_to text d)
 
-abbrev pub plain_block : Form → (name text : List ℕ) → Diagnostic → List ℕ
-plain_block form name text d = formed form name text d None
+abbrev pub plain_block : Style → (name text : List ℕ) → Diagnostic → List ℕ
+plain_block style name text d = formed style name text d None
 
-abbrev pub blocks : Form → (name text : List ℕ) → List Diagnostic → List ℕ
-blocks form name text ds =
-    flat_map (related_block form name text) (take most_related ds)
-    ++ flat_map (plain_block form name text) (drop most_related ds)
+abbrev pub blocks : Style → (name text : List ℕ) → List Diagnostic → List ℕ
+blocks style name text ds =
+    flat_map (related_block style name text) (take most_related ds)
+    ++ flat_map (plain_block style name text) (drop most_related ds)
 
 -- Each of the diagnostics of the text in a form, in their order, and how many errors and warnings
 -- there are.
-unfoldable pub report_of : Form → (name text : List ℕ) → List ℕ
-report_of form name text =
-    blocks form name text (diagnostics_of text) ++ sum_line name (errors_of text) (warnings_of text)
+unfoldable pub report_of : Style → (name text : List ℕ) → List ℕ
+report_of style name text =
+    blocks style name text (diagnostics_of text) ++ sum_line name (errors_of text) (warnings_of text)

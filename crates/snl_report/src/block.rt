@@ -5,11 +5,13 @@
 ghost use Rattle.std.specs.Prelude.{◌≡◌, ℕ, ◌+◌, ◌^◌, ◌<◌, ◌++◌, List, length, min, OnOk};
 ghost use Rattle.snl_excerpt.specs.Columns.{IsCursor};
 ghost use Rattle.snl_report.specs.Blocks.{block_at, hint_text};
-ghost use Rattle.snl_report.specs.Excerpted.{excerpt_text};
+ghost use Rattle.snl_report.specs.Excerpted.{excerpt_end, excerpt_text};
 
 use crate::extent::extent;
 use crate::head::{put_head, put_quoted, slice_of};
 use crate::note::is_near;
+use crate::paint::{Paint, Part, put_off, put_on};
+use crate::reported::Reported;
 use snl_excerpt::{Cursor, put_blank_gutter, put_excerpt, put_gutter, put_marks};
 use snl_kept::Diagnostic;
 use snl_related::Related;
@@ -19,6 +21,7 @@ use std::alloc::AllocError;
 #[tactic(auto, unfolding(crate::specs::Excerpted::excerpt_text))]
 pub fn put_lines(
     out: &mut Vec<u8>,
+    paint: Paint,
     text: &[u8],
     from: Cursor,
     line: usize,
@@ -26,13 +29,24 @@ pub fn put_lines(
 ) -> Result<(), AllocError>
     requires { IsCursor text.now from }
     ensures { OnOk result (out.new.items ≡ out.old.items
-        ++ excerpt_text text.now from.offset from.before line len) }
+        ++ excerpt_text paint text.now from.offset from.before line len) }
 {
     put_gutter(out, line)?;
     let marks = put_excerpt(out, text, from, len)?;
     out.extend_from_slice(b"\n")?;
     put_blank_gutter(out, line)?;
+    put_on(out, paint, Part::Marks)?;
     put_marks(out, marks)?;
+    Ok(())
+}
+
+/// Ends the line of the marks.
+#[tactic(auto, unfolding(crate::specs::Excerpted::excerpt_end))]
+pub fn put_end(out: &mut Vec<u8>, paint: Paint) -> Result<(), AllocError>
+    ensures { OnOk result (out.new.items ≡ out.old.items ++ excerpt_end paint) }
+{
+    put_off(out, paint)?;
+    out.extend_from_slice(b"\n")?;
     Ok(())
 }
 
@@ -56,22 +70,21 @@ fn put_hint(out: &mut Vec<u8>, text: &[u8], related: Option<Related>) -> Result<
 #[tactic(auto, unfolding(crate::specs::Blocks::block_at))]
 pub fn put_block(
     out: &mut Vec<u8>,
-    name: &[u8],
-    text: &[u8],
+    reported: Reported,
     from: Cursor,
     diagnostic: &Diagnostic,
     related: Option<Related>,
 ) -> Result<(), AllocError>
-    requires name { length name.now < 2 ^ 32 }
-    requires text { length text.now < 2 ^ 32 }
-    requires cursor { IsCursor text.now from }
-    ensures { OnOk result (out.new.items ≡ out.old.items
-        ++ block_at name.now text.now from.offset from.before diagnostic.now related) }
+    requires { IsCursor reported.text.now from }
+    ensures { OnOk result (out.new.items ≡ out.old.items ++ block_at reported.entry.style.paint
+        reported.entry.name.now reported.entry.text.now from.offset from.before
+        diagnostic.now related) }
 {
-    put_head(out, name, text, from.column(), diagnostic)?;
+    let (paint, text) = (reported.style.paint, reported.text);
+    put_head(out, paint, reported.name, text, from.column(), diagnostic)?;
     let len = extent(text, from.offset, diagnostic.subject);
-    put_lines(out, text, from, diagnostic.line, len)?;
+    put_lines(out, paint, text, from, diagnostic.line, len)?;
     put_hint(out, text, related)?;
-    out.extend_from_slice(b"\n")?;
+    put_end(out, paint)?;
     Ok(())
 }

@@ -1,5 +1,7 @@
 //! The forms of findings.
 
+use crate::paint::Paint;
+
 /// How findings are written: as blocks with their lines, or each on a line that other programs read.
 #[derive(Clone, Copy, Debug, PartialEq, Eq)]
 pub enum Form {
@@ -10,4 +12,11 @@ pub enum Form {
     Github,
     /// Results of SARIF.
     Sarif,
+}
+
+/// The form that findings have, and whether a report has colours.
+#[derive(Clone, Copy, Debug, PartialEq, Eq)]
+pub struct Style {
+    pub form: Form,
+    pub paint: Paint,
 }

@@ -76,13 +76,13 @@ fn place<'a>(
 
 fn note_on<'a>(reported: Reported<'a>, line: Line, from: Cursor, related: Related) -> Other<'a>
     requires { IsCursor reported.text.now from }
-    ensures { note_of result ≡ note_on reported.entry.form reported.entry.name.now
+    ensures { note_of result ≡ note_on reported.entry.style.form reported.entry.name.now
         reported.entry.text.now line from.offset from.before related }
 {
     let file = file_of(reported.name, reported.text, line.file);
     Other {
         place: place(
-            reported.form,
+            reported.style.form,
             reported.text,
             file,
             line.number,
@@ -94,7 +94,7 @@ fn note_on<'a>(reported: Reported<'a>, line: Line, from: Cursor, related: Relate
 }
 
 fn note_for(reported: Reported, related: Related) -> Other
-    ensures { note_of result ≡ note_for reported.entry.form reported.entry.name.now
+    ensures { note_of result ≡ note_for reported.entry.style.form reported.entry.name.now
         reported.entry.text.now related }
 {
     let from = text_start().at(reported.text, related.span.start);
@@ -103,7 +103,7 @@ fn note_for(reported: Reported, related: Related) -> Other
 }
 
 fn notes_for(reported: Reported, related: Option<Related>) -> Option<Other>
-    ensures { notes_of result ≡ notes_for reported.entry.form reported.entry.name.now
+    ensures { notes_of result ≡ notes_for reported.entry.style.form reported.entry.name.now
         reported.entry.text.now related }
 {
     Some(note_for(reported, related?))
@@ -145,14 +145,14 @@ fn told<'a>(
 ) -> Told<'a>
     requires cursor { IsCursor reported.text.now from }
     requires message { message.now ≡ message_for reported.text.now diagnostic.now }
-    ensures { said_of result ≡ said_at reported.entry.form reported.entry.name.now
+    ensures { said_of result ≡ said_at reported.entry.style.form reported.entry.name.now
         reported.entry.text.now from.offset from.before diagnostic.now related }
 {
     let file = file_of(reported.name, reported.text, diagnostic.file);
     let len = extent(reported.text, from.offset, diagnostic.subject);
     Told {
         place: place(
-            reported.form,
+            reported.style.form,
             reported.text,
             file,
             diagnostic.line,
@@ -175,13 +175,13 @@ pub fn put_formed(
     related: Option<Related>,
 ) -> Result<(), AllocError>
     requires { IsCursor reported.text.now from }
-    ensures { OnOk result (out.new.items ≡ out.old.items ++ line_of reported.entry.form
-        (said_at reported.entry.form reported.entry.name.now reported.entry.text.now
+    ensures { OnOk result (out.new.items ≡ out.old.items ++ line_of reported.entry.style.form
+        (said_at reported.entry.style.form reported.entry.name.now reported.entry.text.now
         from.offset from.before diagnostic.now related)) }
 {
     let message = message_for(alloc, reported.text, diagnostic)?;
     let told = told(reported, from, diagnostic, &message, related);
-    match reported.form {
+    match reported.style.form {
         Form::Report => Ok(()),
         Form::Json => put_object(out, told),
         Form::Github => put_annotation(out, told),

@@ -7,6 +7,7 @@ ghost use Rattle.std.specs.Prelude.{◌≡◌, ℕ, ◌^◌, ◌<◌, ◌++◌, 
 ghost use Rattle.snl_report.specs.Heads.{finding_text, head_text, name_shown, place_text, quoted_shown};
 ghost use Rattle.snl_script.specs.Parts.{slice_of};
 
+use crate::paint::{Paint, Part, part_of, put_off, put_on};
 use itoa::Buffer;
 use snl_excerpt::put_shown;
 use snl_kept::Diagnostic;
@@ -66,11 +67,18 @@ pub fn put_quoted(out: &mut Vec<u8>, bytes: &[u8]) -> Result<(), AllocError>
 
 /// The code, the message and what it quotes.
 #[tactic(auto, unfolding(crate::specs::Heads::finding_text))]
-fn put_finding(out: &mut Vec<u8>, text: &[u8], diagnostic: &Diagnostic) -> Result<(), AllocError>
+fn put_finding(
+    out: &mut Vec<u8>,
+    paint: Paint,
+    text: &[u8],
+    diagnostic: &Diagnostic,
+) -> Result<(), AllocError>
     requires { length text.now < 2 ^ 32 }
-    ensures { OnOk result (out.new.items ≡ out.old.items ++ finding_text text.now diagnostic.now) }
+    ensures { OnOk result (out.new.items ≡ out.old.items ++ finding_text paint text.now diagnostic.now) }
 {
+    put_on(out, paint, part_of(diagnostic.code))?;
     out.extend_from_slice(diagnostic.code.name().as_bytes())?;
+    put_off(out, paint)?;
     out.extend_from_slice(b" ")?;
     out.extend_from_slice(diagnostic.code.message().as_bytes())?;
     put_quoted(out, slice_of(text, diagnostic.offset, diagnostic.subject))?;
@@ -82,6 +90,7 @@ fn put_finding(out: &mut Vec<u8>, text: &[u8], diagnostic: &Diagnostic) -> Resul
 #[tactic(auto, unfolding(crate::specs::Heads::head_text))]
 pub fn put_head(
     out: &mut Vec<u8>,
+    paint: Paint,
     name: &[u8],
     text: &[u8],
     column: usize,
@@ -90,10 +99,12 @@ pub fn put_head(
     requires name { length name.now < 2 ^ 32 }
     requires text { length text.now < 2 ^ 32 }
     ensures { OnOk result (out.new.items ≡ out.old.items
-        ++ head_text name.now text.now column diagnostic.now) }
+        ++ head_text paint name.now text.now column diagnostic.now) }
 {
+    put_on(out, paint, Part::Place)?;
     put_name(out, name, text, diagnostic.file)?;
     put_place(out, diagnostic.line, column)?;
-    put_finding(out, text, diagnostic)?;
+    put_off(out, paint)?;
+    put_finding(out, paint, text, diagnostic)?;
     Ok(())
 }

@@ -11,8 +11,10 @@ mod form;
 mod formed;
 mod head;
 mod note;
+mod paint;
 mod report;
 mod reported;
 
-pub use form::Form;
+pub use form::{Form, Style};
+pub use paint::Paint;
 pub use report::{ReportFault, write_report};

@@ -13,7 +13,7 @@ ghost use Rattle.snl_script.specs.Said.{Said, Written};
 ghost use Rattle.snl_script.specs.Watched.{failed_of, inner_of};
 
 use crate::block::put_block;
-use crate::form::Form;
+use crate::form::{Form, Style};
 use crate::formed::put_formed;
 use crate::note::put_note;
 use crate::reported::Reported;
@@ -78,21 +78,14 @@ fn put_finding(
     related: Option<Related>,
 ) -> Result<(), AllocError>
     requires { IsCursor reported.text.now from }
-    ensures { OnOk result (room.new.items ≡ room.old.items ++ formed_at reported.entry.form
-        reported.entry.name.now reported.entry.text.now from.offset from.before
+    ensures { OnOk result (room.new.items ≡ room.old.items ++ formed_at reported.entry.style.paint
+        reported.entry.style.form reported.entry.name.now reported.entry.text.now from.offset from.before
         diagnostic.now related) }
 {
-    match reported.form {
+    match reported.style.form {
         Form::Report => {
-            put_block(
-                room,
-                reported.name,
-                reported.text,
-                from,
-                diagnostic,
-                related,
-            )?;
-            put_note(room, reported.name, reported.text, reported.lines, related)?;
+            put_block(room, reported, from, diagnostic, related)?;
+            put_note(room, reported, related)?;
             Ok(())
         }
         _ => put_formed(alloc, room, reported, from, diagnostic, related),
@@ -109,7 +102,7 @@ fn put_alone(
     related: Option<Related>,
 ) -> Result<Cursor, AllocError>
     requires { IsCursor reported.text.now from }
-    ensures put { OnOk result (room.new.items ≡ formed reported.entry.form
+    ensures put { OnOk result (room.new.items ≡ formed reported.entry.style
         reported.entry.name.now reported.entry.text.now diagnostic.now related) }
     ensures cursor { IfOk result (λ here. IsCursor reported.entry.text.now here) }
 {
@@ -132,7 +125,7 @@ fn say_block<W: Write>(
 ) -> Result<Cursor, ReportFault>
     requires { IsCursor reported.text.now from }
     ensures said { Said result (W.contents (inner_of out.old)) (W.contents (inner_of out.new)) page.new
-        (page.old ++ formed reported.entry.form reported.entry.name.now reported.entry.text.now diagnostic.now related) }
+        (page.old ++ formed reported.entry.style reported.entry.name.now reported.entry.text.now diagnostic.now related) }
     ensures cursor { IfOk result (λ here. IsCursor reported.entry.text.now here) }
     ensures failed { failed_of out.new ≡ (failed_of out.old || is_unwritten result) }
 {
@@ -156,7 +149,7 @@ fn say_related_block<W: Write>(
     requires same { relations.now.items.text.now ≡ reported.text.now }
     requires listed { IsListed relations.now.items.text.now relations.now.lists.now }
     ensures said { Said result (W.contents (inner_of out.old)) (W.contents (inner_of out.new)) page.new
-        (page.old ++ related_block reported.entry.form reported.entry.name.now reported.entry.text.now diagnostic.now) }
+        (page.old ++ related_block reported.entry.style reported.entry.name.now reported.entry.text.now diagnostic.now) }
     ensures cursor { IfOk result (λ here. IsCursor reported.entry.text.now here) }
     ensures failed { failed_of out.new ≡ (failed_of out.old || is_unwritten result) }
 {
@@ -177,7 +170,7 @@ fn say_related_blocks<W: Write>(
     requires same { relations.now.items.text.now ≡ reported.text.now }
     requires listed { IsListed relations.now.items.text.now relations.now.lists.now }
     ensures said { Said result (W.contents (inner_of out.old)) (W.contents (inner_of out.new)) page.new
-        (page.old ++ flat_map (related_block reported.entry.form reported.entry.name.now reported.entry.text.now)
+        (page.old ++ flat_map (related_block reported.entry.style reported.entry.name.now reported.entry.text.now)
         diagnostics.now) }
     ensures failed { failed_of out.new ≡ (failed_of out.old || is_unwritten result) }
 {
@@ -200,7 +193,7 @@ fn say_plain_blocks<W: Write>(
     diagnostics: &[Diagnostic],
 ) -> Result<(), ReportFault>
     ensures said { Said result (W.contents (inner_of out.old)) (W.contents (inner_of out.new)) page.new
-        (page.old ++ flat_map (plain_block reported.entry.form reported.entry.name.now reported.entry.text.now)
+        (page.old ++ flat_map (plain_block reported.entry.style reported.entry.name.now reported.entry.text.now)
         diagnostics.now) }
     ensures failed { failed_of out.new ≡ (failed_of out.old || is_unwritten result) }
 {
@@ -223,7 +216,7 @@ fn say_first_blocks<W: Write>(
 ) -> Result<(), ReportFault>
     requires { session.now ≡ reported.text.now }
     ensures said { Said result (W.contents (inner_of out.old)) (W.contents (inner_of out.new)) page.new
-        (page.old ++ flat_map (related_block reported.entry.form reported.entry.name.now reported.entry.text.now)
+        (page.old ++ flat_map (related_block reported.entry.style reported.entry.name.now reported.entry.text.now)
         diagnostics.now) }
     ensures failed { failed_of out.new ≡ (failed_of out.old || is_unwritten result) }
 {
@@ -247,7 +240,7 @@ fn say_blocks<W: Write>(
 ) -> Result<(), ReportFault>
     requires { session.now ≡ reported.text.now }
     ensures said { Said result (W.contents (inner_of out.old)) (W.contents (inner_of out.new)) page.new
-        (page.old ++ blocks reported.entry.form reported.entry.name.now reported.entry.text.now (diagnostics_of session.now)) }
+        (page.old ++ blocks reported.entry.style reported.entry.name.now reported.entry.text.now (diagnostics_of session.now)) }
     ensures failed { failed_of out.new ≡ (failed_of out.old || is_unwritten result) }
 {
     let all = session.diagnostics();
@@ -294,17 +287,17 @@ fn say_report<W: Write>(
     page: &mut Page,
     out: &mut Watched<W>,
     room: &mut Vec<u8>,
-    form: Form,
+    style: Style,
     name: &[u8],
     session: &Session,
 ) -> Result<(), ReportFault>
     requires { length name.now < 2 ^ 32 }
     ensures said { Said result (W.contents (inner_of out.old)) (W.contents (inner_of out.new)) page.new
-        (page.old ++ report_of form name.now session.now) }
+        (page.old ++ report_of style name.now session.now) }
     ensures failed { failed_of out.new ≡ (failed_of out.old || is_unwritten result) }
 {
     let reported = Reported {
-        form,
+        style,
         name,
         text: session.text(),
         lines: &session.kept().lists.lines,
@@ -318,18 +311,18 @@ fn say_report<W: Write>(
 pub fn write_report<W: Write>(
     alloc: Global,
     out: &mut Watched<W>,
-    form: Form,
+    style: Style,
     name: &[u8],
     session: &Session,
 ) -> Result<(), ReportFault>
     requires { length name.now < 2 ^ 32 }
     ensures written { Written result (W.contents (inner_of out.old)) (W.contents (inner_of out.new))
-        (report_of form name.now session.now) }
+        (report_of style name.now session.now) }
     ensures failed { failed_of out.new ≡ (failed_of out.old || is_unwritten result) }
 {
     let mut page = Page::new();
     let mut room = Vec::new(alloc);
-    say_report(alloc, &mut page, out, &mut room, form, name, session)?;
+    say_report(alloc, &mut page, out, &mut room, style, name, session)?;
     page.finish(out)?;
     Ok(())
 }

@@ -3,13 +3,13 @@
 ghost use Rattle.std.specs.Prelude.{◌^◌, ◌<◌, length};
 ghost use Rattle.snl_lex.specs.LineList.{IsLineList};
 
-use crate::form::Form;
+use crate::form::Style;
 use snl_lex::LineList;
 
-/// A text with its name, its lines, and the form that its findings are to have.
+/// A text with its name and its lines, and how its findings are to be written.
 #[derive(Clone, Copy)]
 pub struct Reported<'a> {
-    pub form: Form,
+    pub style: Style,
     pub name: &'a [u8],
     pub text: &'a [u8],
     pub lines: &'a LineList,

@@ -11,7 +11,7 @@ abbrev pub invariant-loop-diagnostic : goal.invariant-loop-diagnostic
 invariant-loop-diagnostic g l =
     let contents = g.W.Write.contents in
     record {
-      said : Says (contents (inner_of l.initial.out)) (contents (inner_of l.out)) l.page (l.initial.page ++ flat_map (plain_block l.reported.form l.reported.name.now l.reported.text.now) (take l.diagnostic-index l.diagnostics));
+      said : Says (contents (inner_of l.initial.out)) (contents (inner_of l.out)) l.page (l.initial.page ++ flat_map (plain_block l.reported.style l.reported.name.now l.reported.text.now) (take l.diagnostic-index l.diagnostics));
       cursor : IsCursor l.reported.text.now l.from;
       failed : failed_of l.out ≡ failed_of l.initial.out;
     }

@@ -9,5 +9,5 @@ pub returns-in_err-finish-clause-written : goal.returns-in_err-finish-clause-wri
 returns-in_err-finish-clause-written g c =
     let said = c.in_ok-say_report.ensures.said in
     let part = AppendsPart-after _ _ _ said.written _ said.grown c.in_err-finish.ensures.written in
-    let whole = AppendsPart-same _ _ _ _ (said.all ∙ page_made _ (report_of c.args.form c.args.name.now c.args.session.now) c.new-page.ensures) part in
+    let whole = AppendsPart-same _ _ _ _ (said.all ∙ page_made _ (report_of c.args.style c.args.name.now c.args.session.now) c.new-page.ensures) part in
     MatchResult-from_err c.from_residual-in_err-finish.result _ _ c.from_residual-in_err-finish.ensures.0 (λ _. whole)
