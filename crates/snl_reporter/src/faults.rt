@@ -18,8 +18,8 @@ pub enum Status {
 /// Why a run broke off. The message is its line on standard error.
 #[derive(Clone, Copy, Debug, PartialEq, Eq, Error)]
 pub enum Fault {
-    /// The words of the command line are others than `report`.
-    #[error("usage: snl_reporter report")]
+    /// The words of the command line are no form, or others after it than `color`.
+    #[error("usage: snl_reporter report [color] | json | github | sarif")]
     Usage,
     /// A read of standard input failed.
     #[error("read fault")]
