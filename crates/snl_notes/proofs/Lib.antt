@@ -1,0 +1,3 @@
+mod Listed
+mod NearWords
+mod Shortened
