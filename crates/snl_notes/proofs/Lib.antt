@@ -1,3 +1,4 @@
 mod Listed
 mod NearWords
 mod Shortened
+mod Texts

@@ -1,6 +1,7 @@
 -- The word that a name is nearly spelled as.
-use Rattle.std.specs.Prelude.{ℕ, ◌+◌, ◌-◌, ◌/◌, ◌==◌, ◌&&◌, Bool, List, Option, Some, None, drop, fold, if◌then◌else◌, length, min, nat_eq, nat_le, nat_lt, slice_index, take}
-use Rattle.strsim.specs.Edits.{levenshtein_row}
+use Rattle.std.specs.Prelude.{ℕ, ◌+◌, ◌-◌, ◌/◌, ◌==◌, ◌&&◌, Bool, List, Option, Some, None, chars, drop, fold, if◌then◌else◌, length, min, nat_le, nat_lt, slice_index, take}
+use Rattle.std.specs.Str.{is_utf8}
+use Rattle.strsim.specs.Edits.{osa_table}
 use Rattle.snl_lex.specs.declared.kind.Kind.{Kind}
 use Rattle.snl_expected.specs.Kinds.{phrase_of}
 use Rattle.snl_notes.specs.declared.near.Nearest.{Nearest}
@@ -15,16 +16,20 @@ quotes_word phrase = slice_index phrase 0 == 39 && is_lower (slice_index phrase 
 abbrev pub without_quotes : List ℕ → List ℕ
 without_quotes phrase = take (length phrase - 2) (drop 1 phrase)
 
--- The bytes of a kind that is a reserved word.
+-- Bytes that are text.
+abbrev pub text_in : List ℕ → Option (List ℕ)
+text_in bytes = if is_utf8 bytes then Some bytes else None
+
+-- The text of a kind that is a reserved word.
 abbrev pub word_in : List ℕ → Option (List ℕ)
-word_in phrase = if quotes_word phrase then Some (without_quotes phrase) else None
+word_in phrase = if quotes_word phrase then text_in (without_quotes phrase) else None
 
 abbrev pub word_of : Kind → Option (List ℕ)
 word_of k = word_in (phrase_of k)
 
--- How many bytes have to be put in, left out or replaced.
+-- How many characters have to be put in, left out or replaced, or change places with the next one.
 abbrev pub distance : List ℕ → List ℕ → ℕ
-distance name word = levenshtein_row nat_eq name word (length word)
+distance name word = (osa_table (chars name) (chars word)).last_row (length (chars word))
 
 -- So many are few: one in three of the name's bytes, and three at most.
 abbrev pub few : List ℕ → ℕ

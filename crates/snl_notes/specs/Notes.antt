@@ -1,6 +1,6 @@
 -- What is said where the tokens of an item stop making one: where something is wanted, and what may
 -- come there.
-use Rattle.std.specs.Prelude.{ℕ, ◌++◌, Bool, true, false, List, [], ◌∷◌, Option, Some, None, if◌then◌else◌, length, drop, nat_lt, option_map, slice_get, take}
+use Rattle.std.specs.Prelude.{ℕ, ◌++◌, Bool, true, false, List, [], ◌∷◌, Option, Some, None, if◌then◌else◌, length, drop, nat_lt, option_map, slice_get, string_bytes, take}
 use Rattle.snl_lex.specs.declared.kind.Kind.{Kind}
 use Rattle.snl_lex.specs.declared.kind.Kind.TheVariants as kind
 use Rattle.snl_lex.specs.declared.piece.Piece.{Piece}
@@ -10,7 +10,7 @@ use Rattle.snl_expected.specs.Groups.{Described, description_of}
 use Rattle.snl_notes.specs.declared.note.Note.{Note}
 use Rattle.snl_notes.specs.declared.note.Wanted.{Wanted}
 use Rattle.snl_notes.specs.declared.note.Wanted.TheVariants as wanted
-use Rattle.snl_notes.specs.Near.{near_word}
+use Rattle.snl_notes.specs.Near.{near_word, text_in}
 use Rattle.snl_notes.specs.Words.{sentence}
 
 -- ---- the words
@@ -30,7 +30,7 @@ words_after before name = sentence (description_after before) (meant_word name (
 -- ---- the place
 
 abbrev pub name_of : Kind → List ℕ → Option (List ℕ)
-name_of kind.Name bytes = Some bytes
+name_of kind.Name bytes = text_in bytes
 name_of _ bytes = None
 
 -- A note: where something is wanted, and its words.
@@ -39,7 +39,7 @@ pub record Said : Type 0 where
   pub words : List ℕ
 
 abbrev pub said_by : Note → Said
-said_by note = record { wanted = note.wanted; words = note.words.items }
+said_by note = record { wanted = note.wanted; words = string_bytes note.words }
 
 -- The token at fault may come, so something is missing after it; or something is wanted in the
 -- place of it.

@@ -2,12 +2,12 @@
 //! is wanted, and the words.
 
 ghost use Rattle.std.specs.Prelude.{◌≡◌, ◌++◌, [], ◌∷◌, All, IfOk, None, Some, false, option_copied};
-ghost use Rattle.std.specs.Prelude.{option_map, true};
+ghost use Rattle.std.specs.Prelude.{option_map, string_bytes, true};
 ghost use Rattle.snl_grammar.specs.Parsing.{LiesIn, kinds_in};
 ghost use Rattle.snl_notes.specs.Notes.{meant_word, name_of, note_of, said_at, said_by, said_if, said_of};
 ghost use Rattle.snl_notes.specs.Notes.{words_after};
 
-use crate::near::near_word;
+use crate::near::{near_word, text_in};
 use crate::words::sentence;
 use snl_cut::OutOfMemory;
 use snl_expected::{describe, expected_after, may_come};
@@ -29,7 +29,7 @@ pub enum Wanted {
 #[derive(Debug, Drop)]
 pub struct Note {
     pub wanted: Wanted,
-    pub words: Vec<u8>,
+    pub words: String,
 }
 
 fn kinds_of(alloc: Global, text: &[u8], tokens: &[Piece]) -> Result<Vec<Kind>, OutOfMemory>
@@ -43,12 +43,12 @@ fn kinds_of(alloc: Global, text: &[u8], tokens: &[Piece]) -> Result<Vec<Kind>, O
     Ok(kinds)
 }
 
-// The bytes of a token that is a name.
-fn name_of(kind: Kind, bytes: &[u8]) -> Option<&[u8]>
+// The text of a token that is a name.
+fn name_of(kind: Kind, bytes: &[u8]) -> Option<&str>
     ensures { option_copied result ≡ name_of kind bytes.now }
 {
     if kind == Kind::Name {
-        Some(bytes)
+        text_in(bytes)
     } else {
         None
     }
@@ -57,7 +57,7 @@ fn name_of(kind: Kind, bytes: &[u8]) -> Option<&[u8]>
 // The word that may have been meant by a name, among the kinds that may come in its place.
 fn meant_word(
     alloc: Global,
-    name: Option<&[u8]>,
+    name: Option<&str>,
     expected: &[Kind],
 ) -> Result<Option<Kind>, OutOfMemory>
     ensures { IfOk result (λ word. word ≡ meant_word (option_copied name.entry) expected.now) }
@@ -70,8 +70,8 @@ fn meant_word(
 
 // What may come after these tokens, with the word that may have been meant by a name there.
 #[tactic(auto, unfolding(crate::specs::Notes::words_after))]
-fn words_after(alloc: Global, before: &[Kind], name: Option<&[u8]>) -> Result<Vec<u8>, OutOfMemory>
-    ensures { IfOk result (λ words. words.items ≡ words_after before.now (option_copied name.entry)) }
+fn words_after(alloc: Global, before: &[Kind], name: Option<&str>) -> Result<String, OutOfMemory>
+    ensures { IfOk result (λ words. string_bytes words ≡ words_after before.now (option_copied name.entry)) }
 {
     let expected = expected_after(alloc, before)?;
     let description = describe(alloc, &expected.kinds, &expected.others)?;

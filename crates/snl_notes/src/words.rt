@@ -1,7 +1,7 @@
 //! What may come at a place, as a sentence. In: what may come, by groups and single kinds, and the
 //! word that may have been meant. Out: the words.
 
-ghost use Rattle.std.specs.Prelude.{◌≡◌, ◌<◌, ◌++◌, IfOk, OnOk, codes, length, map};
+ghost use Rattle.std.specs.Prelude.{◌≡◌, ◌<◌, ◌++◌, IfOk, OnOk, codes, length, map, string_bytes};
 ghost use Rattle.snl_expected.specs.Groups.{described, group_phrase};
 ghost use Rattle.snl_expected.specs.Kinds.{phrase_of};
 ghost use Rattle.snl_notes.specs.Words.{expectation, listed, phrases_of, sentence, separator};
@@ -44,29 +44,29 @@ fn phrases_of(alloc: Global, description: &Description) -> Result<Vec<&'static s
 }
 
 // What is put before the phrase with a number, of so many.
-fn separator(index: usize, count: usize) -> &'static [u8]
+fn separator(index: usize, count: usize) -> &'static str
     requires { index < count }
     ensures { result.now ≡ separator index count }
 {
     if index == 0 {
-        b""
+        ""
     } else if index + 1 == count {
-        b" or "
+        " or "
     } else {
-        b", "
+        ", "
     }
 }
 
-fn put_phrase(out: &mut Vec<u8>, index: usize, count: usize, phrase: &str) -> Result<(), AllocError>
+fn put_phrase(out: &mut String, index: usize, count: usize, phrase: &str) -> Result<(), AllocError>
     requires { index < count }
-    ensures { OnOk result (out.new.items ≡ out.old.items ++ (separator index count ++ phrase.now)) }
+    ensures { OnOk result (string_bytes out.new ≡ string_bytes out.old ++ (separator index count ++ phrase.now)) }
 {
-    out.extend_from_slice(separator(index, count))?;
-    out.extend_from_slice(phrase.as_bytes())
+    out.push_str(separator(index, count))?;
+    out.push_str(phrase)
 }
 
-fn put_listed(out: &mut Vec<u8>, phrases: &[&'static str]) -> Result<(), AllocError>
-    ensures { OnOk result (out.new.items ≡ out.old.items
+fn put_listed(out: &mut String, phrases: &[&'static str]) -> Result<(), AllocError>
+    ensures { OnOk result (string_bytes out.new ≡ string_bytes out.old
         ++ listed (map (λ p. p.now) phrases.now)) }
 {
     for (index, phrase) in phrases.iter().enumerate() {
@@ -75,32 +75,33 @@ fn put_listed(out: &mut Vec<u8>, phrases: &[&'static str]) -> Result<(), AllocEr
     Ok(())
 }
 
-fn put_expectation(out: &mut Vec<u8>, phrases: &[&'static str]) -> Result<(), AllocError>
-    ensures { OnOk result (out.new.items ≡ out.old.items
+fn put_expectation(out: &mut String, phrases: &[&'static str]) -> Result<(), AllocError>
+    ensures { OnOk result (string_bytes out.new ≡ string_bytes out.old
         ++ expectation (map (λ p. p.now) phrases.now)) }
 {
     if phrases.is_empty() {
-        return out.extend_from_slice(b"nothing may come here within 100 levels");
+        return out.push_str("nothing may come here within 100 levels");
     }
-    out.extend_from_slice(b"expected ")?;
+    out.push_str("expected ")?;
     put_listed(out, phrases)
 }
 
-fn put_question(out: &mut Vec<u8>, word: &str) -> Result<(), AllocError>
-    ensures { OnOk result (out.new.items ≡ out.old.items ++ (word.now ++ codes "?")) }
+fn put_question(out: &mut String, word: &str) -> Result<(), AllocError>
+    ensures { OnOk result (string_bytes out.new ≡ string_bytes out.old ++ (word.now ++ codes "?")) }
 {
-    out.extend_from_slice(word.as_bytes())?;
-    out.extend_from_slice(b"?")
+    out.push_str(word)?;
+    out.push_str("?")
 }
 
-fn put_suggestion(out: &mut Vec<u8>, meant: Option<Kind>) -> Result<(), AllocError>
-    ensures { OnOk result (out.new.items ≡ out.old.items ++ suggestion meant) }
+fn put_suggestion(out: &mut String, meant: Option<Kind>) -> Result<(), AllocError>
+    ensures { OnOk result (string_bytes out.new ≡ string_bytes out.old ++ suggestion meant) }
 {
     let Some(word) = meant else {
         return Ok(());
     };
-    out.extend_from_slice(b"; did you mean ")?;
-    put_question(out, phrase(word))
+    out.push_str("; did you mean ")?;
+    put_question(out, phrase(word))?;
+    Ok(())
 }
 
 /// The sentence that says what may come, and which word may have been meant.
@@ -108,11 +109,11 @@ pub fn sentence(
     alloc: Global,
     description: &Description,
     meant: Option<Kind>,
-) -> Result<Vec<u8>, OutOfMemory>
-    ensures { IfOk result (λ words. words.items ≡ sentence (described description.now) meant) }
+) -> Result<String, OutOfMemory>
+    ensures { IfOk result (λ words. string_bytes words ≡ sentence (described description.now) meant) }
 {
     let phrases = phrases_of(alloc, description)?;
-    let mut words = Vec::new(alloc);
+    let mut words = String::new(alloc);
     put_expectation(&mut words, &phrases)?;
     put_suggestion(&mut words, meant)?;
     Ok(words)
