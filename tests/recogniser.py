@@ -1,11 +1,17 @@
-"""A recogniser of items by the grammar of docs/LANGUAGE.md, after Earley: which tokens may come after some others.
+"""A recogniser of items by the grammar of docs/LANGUAGE.md, after Earley: which tokens may come
+after some others.
 
-It is a second judge of what the server says that was expected. It has none of the program's code, and works in another way: it holds all
-ways to read the tokens so far at once, and so reads off which tokens go on with one of these. A token is a word or a mark as it is
-spelled, or one of NAME INT FLOAT TEXT CHAR CCODE. Levels are not counted."""
+It is a second judge of what the server says that was expected. It has none of the program's code,
+and works in another way: it holds all ways to read the tokens so far at once, and reads off which
+tokens go on with one of them. A token is a word or a mark as it is spelled, or one of NAME, INT,
+FLOAT, TEXT, CHAR and CCODE. Levels are not counted."""
 
+import re
+
+# A rule with its forms; a form may be empty. The mark | is in quotes, since it parts forms.
 GRAMMAR = r"""
-<item>: <header> | <set> | } | CCODE | ; | <option> | <foreign> | <declaration> | <assign> | <monitor> | <sync> | <syncq> | <entry> | <exit> | <state> | <function> | <struct>
+<item>: <header> | <set> | } | CCODE | ; | <option> | <foreign> | <declaration> | <assign> |
+    <monitor> | <sync> | <syncq> | <entry> | <exit> | <state> | <function> | <struct>
 <header>: program NAME | program NAME ( <texts> )
 <set>: ss NAME {
 <texts>: TEXT | TEXT <texts>
@@ -21,7 +27,9 @@ GRAMMAR = r"""
 <initialiser>: <assignment> | { } | { <initialisers> } | { <initialisers> , }
 <initialisers>: <initialiser> | <initialiser> , <initialisers>
 <to>: | to
-<assign>: assign NAME ; | assign NAME <to> <texts> ; | assign NAME [ INT ] <to> <texts> ; | assign NAME <to> { } ; | assign NAME <to> { <channels> } ; | assign NAME <to> { <channels> , } ;
+<assign>: assign NAME ; | assign NAME <to> <texts> ; | assign NAME [ INT ] <to> <texts> ; |
+    assign NAME <to> { } ; | assign NAME <to> { <channels> } ; | assign NAME <to> { <channels> ,
+    } ;
 <channels>: <texts> | <texts> , <channels>
 <element>: | [ INT ]
 <monitor>: monitor NAME <element> ;
@@ -34,7 +42,8 @@ GRAMMAR = r"""
 <exit>: exit <block>
 <state>: state NAME { <members> }
 <members>: | <member> <members>
-<member>: <declaration> | <foreign> | <assign> | <monitor> | <sync> | <syncq> | <option> | ; | CCODE | <entry> | <exit> | <when>
+<member>: <declaration> | <foreign> | <assign> | <monitor> | <sync> | <syncq> | <option> | ; |
+    CCODE | <entry> | <exit> | <when>
 <when>: when ( <condition> ) <block> state NAME | when ( <condition> ) <block> exit
 <condition>: | <expression>
 <function>: <type> <stars> NAME ( ) <body> | <type> <stars> NAME ( <parameters> ) <body>
@@ -44,12 +53,16 @@ GRAMMAR = r"""
 <struct>: struct NAME { <fields> } ;
 <fields>: | <declaration> <fields> | CCODE <fields>
 <type>: <base> | const <base> | <base> const | const <base> const
-<base>: void | <integer> | unsigned | unsigned <integer> | int8_t | uint8_t | int16_t | uint16_t | int32_t | uint32_t | float | double | string | evflag | <tag> NAME
+<base>: void | <integer> | unsigned | unsigned <integer> | int8_t | uint8_t | int16_t | uint16_t
+    | int32_t | uint32_t | float | double | string | evflag | <tag> NAME
 <integer>: char | short | short int | int | long | long int
 <tag>: enum | struct | union | typename
 <block>: { <inside> }
 <inside>: | <declaration> <inside> | <statement> <inside>
-<statement>: <condition> ; | <block> | CCODE | if ( <expression> ) <statement> | if ( <expression> ) <statement> else <statement> | while ( <expression> ) <statement> | for ( <condition> ; <condition> ; <condition> ) <statement> | break ; | continue ; | return <condition> ; | state NAME ;
+<statement>: <condition> ; | <block> | CCODE | if ( <expression> ) <statement> | if (
+    <expression> ) <statement> else <statement> | while ( <expression> ) <statement> | for (
+    <condition> ; <condition> ; <condition> ) <statement> | break ; | continue ; | return
+    <condition> ; | state NAME ;
 <expression>: <assignment> | <assignment> , <expression>
 <assignment>: <conditional> | <prefix> <assigns> <assignment>
 <assigns>: = | += | -= | *= | /= | %= | &= | |= | ^= | <<= | >>=
@@ -59,7 +72,8 @@ GRAMMAR = r"""
 <prefix>: <uncast> | ( <type> <stars> ) <prefix>
 <uncast>: <postfix> | <before> <prefix> | sizeof <uncast>
 <before>: + | - | ! | ~ | * | & | ++ | --
-<postfix>: <primary> | <postfix> [ <expression> ] | <postfix> ( ) | <postfix> ( <arguments> ) | <postfix> . NAME | <postfix> -> NAME | <postfix> ++ | <postfix> --
+<postfix>: <primary> | <postfix> [ <expression> ] | <postfix> ( ) | <postfix> ( <arguments> ) |
+    <postfix> . NAME | <postfix> -> NAME | <postfix> ++ | <postfix> --
 <arguments>: <assignment> | <assignment> , <arguments>
 <primary>: NAME | INT | FLOAT | CHAR | <texts> | ( <expression> ) | sizeof ( <type> <stars> )
 """
@@ -68,9 +82,8 @@ GRAMMAR = r"""
 def rules_of(grammar):
     """What each name stands for: lists of names and tokens."""
     rules = {}
-    for line in grammar.strip().splitlines():
-        name, _, forms = line.partition(": ")
-        # `|` parts the forms; the token is in quotes, and no part of another mark.
+    for rule in re.split(r"\n(?=<)", grammar.strip()):
+        name, _, forms = rule.partition(":")
         parts, form = [], []
         for word in forms.split():
             if word == "|":
@@ -83,7 +96,8 @@ def rules_of(grammar):
 
 
 RULES = rules_of(GRAMMAR)
-TOKENS = sorted({word for forms in RULES.values() for form in forms for word in form if word not in RULES})
+WORDS = {word for forms in RULES.values() for form in forms for word in form}
+TOKENS = sorted(WORDS - set(RULES))
 EMPTY = {name for name, forms in RULES.items() if () in forms}
 
 
@@ -116,7 +130,8 @@ class Reading:
                 self.complete = True
                 continue
             else:
-                new = [(form, read + 1, since, of) for form, read, since, of in self.sets[begin].get(name, ())]
+                before = self.sets[begin].get(name, ())
+                new = [(form, read + 1, since, of) for form, read, since, of in before]
             for way in new:
                 if way not in ways:
                     ways.add(way)

@@ -71,7 +71,8 @@ fn meant_word(
 // What may come after these tokens, with the word that may have been meant by a name there.
 #[tactic(auto, unfolding(crate::specs::Notes::words_after))]
 fn words_after(alloc: Global, before: &[Kind], name: Option<&str>) -> Result<String, OutOfMemory>
-    ensures { IfOk result (λ words. string_bytes words ≡ words_after before.now (option_copied name.entry)) }
+    ensures { IfOk result (λ words. string_bytes words
+        ≡ words_after before.now (option_copied name.entry)) }
 {
     let expected = expected_after(alloc, before)?;
     let description = describe(alloc, &expected.kinds, &expected.others)?;
