@@ -1,5 +1,5 @@
 -- The nearest of some words.
-use Rattle.std.proofs.Common.{◌≡◌, ◌⊎◌, ℕ, ◌+◌, ◌<◌, ◌≤◌, Bool, true, false, List, [], ◌∷◌, ◌++◌, Option, Some, None, length, if◌then◌else◌, is_some, nat_le, nat_lt, refl, sym, ap, subst, ◌∙◌, append_assoc, inl, inr, arith, true≢false}
+use Rattle.std.proofs.Common.{◌≡◌, ℕ, ◌+◌, ◌<◌, ◌≤◌, Bool, true, false, List, [], ◌∷◌, ◌++◌, Option, Some, None, length, if◌then◌else◌, is_some, nat_le, refl, sym, ap, subst, ◌∙◌, append_assoc, inl, inr, arith, true≢false}
 use Rattle.std.specs.List.{All, Contains, fold}
 use Rattle.std.specs.Option.{unwrap_or}
 use Rattle.std.proofs.lemmas.Bool.{cases_lt, lt-ltb, le-ltb}

@@ -1,9 +1,8 @@
 -- What notes promise, in the words of the grammar.
-use Rattle.std.specs.Prelude.{◌≡◌, ℕ, suc, ◌≤◌, Bool, true, List, Option, Some, Contains, length, slice_get, take}
+use Rattle.std.specs.Prelude.{◌≡◌, ℕ, ◌≤◌, List, Some, Contains}
 use Rattle.snl_lex.specs.declared.kind.Kind.{Kind}
 use Rattle.snl_expected.specs.DescriptionLaws.{IsDescribed}
 use Rattle.snl_expected.specs.Expected.{MayCome}
-use Rattle.snl_expected.specs.Kinds.{all_kinds}
 use Rattle.snl_notes.specs.Near.{distance, few, word_of}
 use Rattle.snl_notes.specs.Notes.{description_after}
 

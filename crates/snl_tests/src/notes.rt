@@ -182,7 +182,7 @@ fn try_levels(rt: &impl Abort, alloc: Global, count: usize, words: &str) -> Resu
 
 #[test]
 fn says_where_levels_end(rt: HostRuntime) -> Result<(), Fail> {
-    try_levels(&rt, rt.alloc(), 100, "expected a type or an operand")?;
+    try_levels(&rt, rt.alloc(), 100, 102, "expected a type or an operand")?;
     try_levels(
         &rt,
         rt.alloc(),

@@ -1,4 +1,4 @@
-use Rattle.std.proofs.Common.{◌≡◌, Bool, true, false, refl, sym, subst}
+use Rattle.std.proofs.Common.{◌≡◌, Bool, true, false, refl, subst}
 use Rattle.snl_expected.specs.Expected.{IsWhether, MayCome, comes}
 use Rattle.snl_notes.proofs.laws.what_is_noted_may_come.Goals as goal
 

@@ -1,5 +1,5 @@
-use Rattle.std.proofs.Common.{◌≡◌, ◌∙◌, ap, option_copied}
-use Rattle.snl_expected.specs.Expected.{expected_of, others_of}
+use Rattle.std.proofs.Common.{◌∙◌, ap, option_copied}
+use Rattle.snl_expected.specs.Expected.{expected_of}
 use Rattle.snl_expected.specs.Groups.{description_of}
 use Rattle.snl_notes.specs.Notes.{description_after, meant_word, words_after}
 use Rattle.snl_notes.specs.Words.{sentence}

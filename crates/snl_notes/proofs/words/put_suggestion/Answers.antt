@@ -1,4 +1,4 @@
-use Rattle.std.proofs.Common.{◌≡◌, ◌++◌, ◌∙◌, ap, sym, append_assoc, codes}
+use Rattle.std.proofs.Common.{◌++◌, ◌∙◌, ap, sym, append_assoc, codes}
 use Rattle.std.specs.Prelude.{string_bytes}
 use Rattle.snl_notes.specs.Words.{suggestion}
 use Rattle.snl_notes.proofs.words.put_suggestion.Goals as goal
