@@ -9,4 +9,6 @@ mod hovers;
 #[cfg(test)]
 mod meanings;
 #[cfg(test)]
+mod notes;
+#[cfg(test)]
 mod references;

@@ -169,12 +169,19 @@ fn add_open(text: &mut String, count: usize) -> Result<(), Fail> {
     Ok(())
 }
 
-fn try_levels(rt: &impl Abort, alloc: Global, count: usize, words: &str) -> Result<(), Fail> {
+// What is said after so many, the last of which is the token with a number.
+fn try_levels(
+    rt: &impl Abort,
+    alloc: Global,
+    count: usize,
+    last: usize,
+    words: &str,
+) -> Result<(), Fail> {
     let mut text = String::from_str(alloc, "int v = ")?;
     add_open(&mut text, count)?;
     let note = note_in(alloc, text.as_bytes())?;
     assert!(rt;
-        is_said(&note, Wanted::After(count + 2), words),
+        is_said(&note, Wanted::After(last), words),
         "{count} levels"
     );
     Ok(())
@@ -183,10 +190,6 @@ fn try_levels(rt: &impl Abort, alloc: Global, count: usize, words: &str) -> Resu
 #[test]
 fn says_where_levels_end(rt: HostRuntime) -> Result<(), Fail> {
     try_levels(&rt, rt.alloc(), 100, 102, "expected a type or an operand")?;
-    try_levels(
-        &rt,
-        rt.alloc(),
-        101,
-        "nothing may come here within 100 levels",
-    )
+    let none = "nothing may come here within 100 levels";
+    try_levels(&rt, rt.alloc(), 101, 103, none)
 }
