@@ -30,7 +30,17 @@ def wrong_in_definition(result, asked, is_utf8):
 def wrong_in_hover(result, asked, is_utf8):
     if result is None:
         return ""
-    return wrong_in_contents(result) or wrong_in_range(result["range"], asked, is_utf8)
+    if wrong := wrong_in_contents(result):
+        return wrong
+    judge = wrong_in_place if is_note(result) else wrong_in_range
+    return judge(result["range"], asked, is_utf8)
+
+
+def wrong_in_place(between, asked, is_utf8):
+    """What is wrong with a range that is to be of a token that the cursor is on."""
+    start, stop = offsets_of(asked["text"], between, is_utf8)
+    at = offset_of(asked["text"], *asked["place"], is_utf8)
+    return "" if start <= at <= stop else f"{start} to {stop} for a cursor at {at}"
 
 
 def wrong_in_range(between, asked, is_utf8):
@@ -65,6 +75,11 @@ def wrong_in_contents(result):
         return f"no hover: {result}"
     is_right = contents["kind"] == "plaintext" and contents["value"]
     return "" if is_right else f"no plain text: {contents}"
+
+
+def is_note(result):
+    """Whether a hover says what may come at a token at fault."""
+    return result["contents"]["value"].startswith(("expected ", "nothing may come here "))
 
 
 def line_of(text, offset):

@@ -9,7 +9,7 @@ import json
 import random
 import sys
 
-from asked import STATE, STATE_SET, WORD, all_symbols, line_of, offsets_of
+from asked import STATE, STATE_SET, WORD, all_symbols, is_note, line_of, offsets_of
 from protocol import (
     Checker, Model, Server, ask, did_change, did_open, frame, initialize, note, request, wrong_in,
 )
@@ -105,10 +105,15 @@ class Asking:
 
     def ask_at(self, text, line, character):
         """A definition and a hover at one place: both are there or none, and the hover begins with
-        the line of the declaration."""
+        the line of the declaration. At a token at fault the hover says what may come there."""
         found = self.result("definition", line, character)
         hover = self.result("hover", line, character)
         if self.wrong or (found, hover) == (None, None):
+            return
+        if hover and is_note(hover):
+            at = hover["range"]["start"]["line"]
+            faults = [it[0] for it in self.model.checker.found(text) if it[1] == "E02"]
+            self.wrong = "" if at in faults else f"{hover} in line {at}, where no E02 is"
             return
         if not found or not hover:
             self.wrong = f"at {line}:{character} {found} is declared, and {hover} told"

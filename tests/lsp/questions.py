@@ -98,6 +98,30 @@ HOVERS = (
     (0, 9, None, None),
 )
 
+# A text with faulty items, and what is said of the tokens at fault: where a cursor is, and the range
+# of the token.
+FAULTY = """program pump
+int level
+evflag ready;
+ss control {
+  state low { whn (level) { } exit }
+}
+stat high { }
+"""
+DECLARATOR = "expected ';', ',', '(', '[' or '='"
+FAULTS = (
+    (2, 0, DECLARATOR, in_line(2, 0, 6)),
+    (2, 4, DECLARATOR, in_line(2, 0, 6)),
+    (2, 6, DECLARATOR, in_line(2, 0, 6)),
+    (2, 8, None, None),
+    (4, 8, "state low { whn (level) { } exit }\nfaulty", in_line(4, 8, 11)),
+    (
+        4, 14, "expected '}' or a member of a state; did you mean 'when'?", in_line(4, 14, 17),
+    ),
+    (4, 19, None, None),
+    (6, 1, "expected an item; did you mean 'state'?", in_line(6, 0, 4)),
+)
+
 
 def results(server, messages, encodings=None):
     """What is answered to requests among messages: the result of each, or the code of its error."""
@@ -132,6 +156,12 @@ def by_hand():
     for line, character, value, marked in HOVERS:
         asked = ask(1, "hover", URI, line, character)
         yield f"the hover at {line}:{character}", [opened, asked], [told(value, marked)]
+    for line, character, value, marked in FAULTS:
+        asked = ask(1, "hover", URI, line, character)
+        faulty = [did_open(URI, FAULTY), asked]
+        yield f"what is said of a fault at {line}:{character}", faulty, [told(value, marked)]
+    short = [did_open(URI, "program p\nint x"), ask(1, "hover", URI, 1, 5)]
+    yield "what is said of a fault at the end", short, [told(DECLARATOR, in_line(1, 4, 5))]
     yield from at_other_times()
 
 

@@ -9,6 +9,8 @@ mod hovers;
 #[cfg(test)]
 mod meanings;
 #[cfg(test)]
+mod notes;
+#[cfg(test)]
 mod references;
 #[cfg(test)]
 mod related;

@@ -21,3 +21,4 @@ mod DeclaredStates
 mod Lines
 mod Wakes
 mod OwnReference
+mod Faults
