@@ -15,7 +15,7 @@ mod tokens;
 pub use document_symbols::laws::{children_lie_in_parents, names_lie_in_extents};
 pub use document_symbols::symbol::{DocumentSymbol, DocumentSymbolKind};
 pub use document_symbols::text_symbols::symbols;
-pub use fault_notes::note_at::{FaultNote, note_at};
+pub use fault_notes::note_at::{FaultNote, fault_note_of, note_at};
 pub use hovers::near::{Hover, hover_at};
 pub use meanings::items::{TokenPlace, span_bytes};
 pub use meanings::laws::names_mean_their_like;

@@ -5,7 +5,7 @@ use Rattle.std.proofs.lemmas.List.{drop_min, take_min}
 use Rattle.snl_kept.specs.declared.found.findings.Diagnostic.{Diagnostic}
 use Rattle.snl_kept.specs.Diagnostics.{diagnostics_of, errors_of, warnings_of}
 use Rattle.snl_report.specs.declared.form.Style.{Style}
-use Rattle.snl_report.specs.Reports.{blocks, most_related, name_line, plain_block, related_block, report_of, sum_line}
+use Rattle.snl_report.specs.Reports.{blocks, most_noted, name_line, plain_block, noted_block, report_of, sum_line}
 use Rattle.snl_script.specs.Parts.{sum_text}
 
 -- the name of the text, and how much was found in it
@@ -24,18 +24,18 @@ report_made style page name text session errors warnings t e w = rw (t, e, w)
 
 -- the blocks of the first diagnostics, and those of the others
 pub blocks_made : (style : Style) (page name text : List ℕ) (count : ℕ) (first others all found : List Diagnostic) →
-    count ≡ min most_related (length all) → first ≡ take count all → others ≡ drop count all →
+    count ≡ min most_noted (length all) → first ≡ take count all → others ≡ drop count all →
     all ≡ found →
-    (page ++ flat_map (related_block style name text) first) ++ flat_map (plain_block style name text) others
+    (page ++ flat_map (noted_block style name text) first) ++ flat_map (plain_block style name text) others
     ≡ page ++ blocks style name text found
 blocks_made style page name text count first others all found c f o is =
-    let front : first ≡ take most_related all =
-    f ∙ ap (λ (n : ℕ). take n all) c ∙ take_min most_related all in
-    let back : others ≡ drop most_related all =
-    o ∙ ap (λ (n : ℕ). drop n all) c ∙ drop_min most_related all in
+    let front : first ≡ take most_noted all =
+    f ∙ ap (λ (n : ℕ). take n all) c ∙ take_min most_noted all in
+    let back : others ≡ drop most_noted all =
+    o ∙ ap (λ (n : ℕ). drop n all) c ∙ drop_min most_noted all in
     rw (front, back)
-    (append_assoc page (flat_map (related_block style name text) (take most_related all))
-    (flat_map (plain_block style name text) (drop most_related all)))
+    (append_assoc page (flat_map (noted_block style name text) (take most_noted all))
+    (flat_map (plain_block style name text) (drop most_noted all)))
     ∙ ap (λ (ds : List Diagnostic). page ++ blocks style name text ds) is
 
 -- on an empty page

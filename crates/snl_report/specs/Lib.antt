@@ -4,6 +4,7 @@ pub mod Extents
 pub mod Faults
 pub mod Formed
 pub mod Heads
+pub mod Noted
 pub mod Notes
 pub mod Paints
 pub mod Reports

@@ -3,9 +3,9 @@ use Rattle.std.specs.Prelude.{ℕ, List, ◌++◌, None, codes, drop, flat_map, 
 use Rattle.snl_excerpt.specs.Lines.{shown_bytes}
 use Rattle.snl_kept.specs.declared.found.findings.Diagnostic.{Diagnostic}
 use Rattle.snl_kept.specs.Diagnostics.{diagnostics_of, errors_of, warnings_of}
-use Rattle.snl_related.specs.Related.{related_to}
 use Rattle.snl_report.specs.declared.form.Style.{Style}
 use Rattle.snl_report.specs.Formed.{formed}
+use Rattle.snl_report.specs.Noted.{noted_text}
 use Rattle.snl_script.specs.Parts.{sum_text}
 
 abbrev pub name_line : (name : List ℕ) → List ℕ
@@ -15,20 +15,20 @@ name_line name = shown_bytes name ++ codes ": "
 abbrev pub sum_line : (name : List ℕ) → (errors warnings : ℕ) → List ℕ
 sum_line name errors warnings = name_line name ++ sum_text errors warnings
 
--- So many diagnostics are told with what they are related to, the first ones.
-abbrev pub most_related : ℕ
-most_related = 100
+-- So many diagnostics are told with their notes, the first ones.
+abbrev pub most_noted : ℕ
+most_noted = 100
 
-abbrev pub related_block : Style → (name text : List ℕ) → Diagnostic → List ℕ
-related_block style name text d = formed style name text d (related_to text d)
+abbrev pub noted_block : Style → (name text : List ℕ) → Diagnostic → List ℕ
+noted_block style name text d = formed style name text d (noted_text text d)
 
 abbrev pub plain_block : Style → (name text : List ℕ) → Diagnostic → List ℕ
 plain_block style name text d = formed style name text d None
 
 abbrev pub blocks : Style → (name text : List ℕ) → List Diagnostic → List ℕ
 blocks style name text ds =
-    flat_map (related_block style name text) (take most_related ds)
-    ++ flat_map (plain_block style name text) (drop most_related ds)
+    flat_map (noted_block style name text) (take most_noted ds)
+    ++ flat_map (plain_block style name text) (drop most_noted ds)
 
 -- Each of the diagnostics of the text in a form, in their order, and how many errors and warnings
 -- there are.

@@ -1,23 +1,24 @@
 //! A finding in a form that other programs read.
-//! In: the text that is reported on, a finding with its place, and what it is related to. Out: a
-//! line, after bytes that are there.
+//! In: the text that is reported on, a finding with its place, and its note. Out: a line, after
+//! bytes that are there.
 
-ghost use Rattle.std.specs.Prelude.{◌≡◌, ◌++◌, IfOk, OnOk};
+ghost use Rattle.std.specs.Prelude.{◌≡◌, ◌++◌, IfOk, OnOk, option_map};
 ghost use Rattle.snl_excerpt.specs.Columns.{IsCursor};
 ghost use Rattle.snl_forms.specs.Forms.{at_of, note_of, notes_of, said_of};
 ghost use Rattle.snl_report.specs.Formed.{at_place, begins_character, column_by, file_of, message_for};
 ghost use Rattle.snl_report.specs.Formed.{line_of, note_for, note_on, notes_for, said_at, units};
+ghost use Rattle.snl_report.specs.Noted.{said_of as said_of_note};
 ghost use Rattle.snl_script.specs.Parts.{quoted};
 
 use crate::extent::extent;
 use crate::form::Form;
 use crate::head::slice_of;
+use crate::noted::Note;
 use crate::reported::Reported;
 use snl_excerpt::{Cursor, text_start};
 use snl_forms::{Other, Place, Told, put_annotation, put_object, put_result};
 use snl_kept::Diagnostic;
 use snl_lex::Line;
-use snl_related::{Related, words_of};
 use std::alloc::{AllocError, Global};
 
 fn begins_character(byte: u8) -> bool
@@ -74,10 +75,10 @@ fn place<'a>(
     }
 }
 
-fn note_on<'a>(reported: Reported<'a>, line: Line, from: Cursor, related: Related) -> Other<'a>
+fn note_on<'a>(reported: Reported<'a>, line: Line, from: Cursor, note: Note<'a>) -> Other<'a>
     requires { IsCursor reported.text.now from }
     ensures { note_of result ≡ note_on reported.entry.style.form reported.entry.name.now
-        reported.entry.text.now line from.offset from.before related }
+        reported.entry.text.now line from.offset from.before (said_of_note note.entry) }
 {
     let file = file_of(reported.name, reported.text, line.file);
     Other {
@@ -87,26 +88,26 @@ fn note_on<'a>(reported: Reported<'a>, line: Line, from: Cursor, related: Relate
             file,
             line.number,
             from,
-            related.span.len,
+            note.span.len,
         ),
-        words: words_of(related.kind),
+        words: note.words,
     }
 }
 
-fn note_for(reported: Reported, related: Related) -> Other
+fn note_for<'a>(reported: Reported<'a>, note: Note<'a>) -> Other<'a>
     ensures { note_of result ≡ note_for reported.entry.style.form reported.entry.name.now
-        reported.entry.text.now related }
+        reported.entry.text.now (said_of_note note.entry) }
 {
-    let from = text_start().at(reported.text, related.span.start);
-    let line = reported.lines.line_by(reported.text, related.span.start);
-    note_on(reported, line, from, related)
+    let from = text_start().at(reported.text, note.span.start);
+    let line = reported.lines.line_by(reported.text, note.span.start);
+    note_on(reported, line, from, note)
 }
 
-fn notes_for(reported: Reported, related: Option<Related>) -> Option<Other>
+fn notes_for<'a>(reported: Reported<'a>, note: Option<Note<'a>>) -> Option<Other<'a>>
     ensures { notes_of result ≡ notes_for reported.entry.style.form reported.entry.name.now
-        reported.entry.text.now related }
+        reported.entry.text.now (option_map said_of_note note.entry) }
 {
-    Some(note_for(reported, related?))
+    Some(note_for(reported, note?))
 }
 
 // The message that `check` prints.
@@ -141,12 +142,12 @@ fn told<'a>(
     from: Cursor,
     diagnostic: &Diagnostic,
     message: &'a [u8],
-    related: Option<Related>,
+    note: Option<Note<'a>>,
 ) -> Told<'a>
     requires cursor { IsCursor reported.text.now from }
     requires message { message.now ≡ message_for reported.text.now diagnostic.now }
     ensures { said_of result ≡ said_at reported.entry.style.form reported.entry.name.now
-        reported.entry.text.now from.offset from.before diagnostic.now related }
+        reported.entry.text.now from.offset from.before diagnostic.now (option_map said_of_note note.entry) }
 {
     let file = file_of(reported.name, reported.text, diagnostic.file);
     let len = extent(reported.text, from.offset, diagnostic.subject);
@@ -161,7 +162,7 @@ fn told<'a>(
         ),
         code: diagnostic.code,
         message,
-        related: notes_for(reported, related),
+        related: notes_for(reported, note),
     }
 }
 
@@ -172,15 +173,15 @@ pub fn put_formed(
     reported: Reported,
     from: Cursor,
     diagnostic: &Diagnostic,
-    related: Option<Related>,
+    note: Option<Note>,
 ) -> Result<(), AllocError>
     requires { IsCursor reported.text.now from }
     ensures { OnOk result (out.new.items ≡ out.old.items ++ line_of reported.entry.style.form
         (said_at reported.entry.style.form reported.entry.name.now reported.entry.text.now
-        from.offset from.before diagnostic.now related)) }
+        from.offset from.before diagnostic.now (option_map said_of_note note.entry))) }
 {
     let message = message_for(alloc, reported.text, diagnostic)?;
-    let told = told(reported, from, diagnostic, &message, related);
+    let told = told(reported, from, diagnostic, &message, note);
     match reported.style.form {
         Form::Report => Ok(()),
         Form::Json => put_object(out, told),

@@ -11,6 +11,7 @@ mod form;
 mod formed;
 mod head;
 mod note;
+mod noted;
 mod paint;
 mod report;
 mod reported;

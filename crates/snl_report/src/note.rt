@@ -1,26 +1,19 @@
 //! The note after the block of a finding.
-//! In: the name of a text, the text, its lines, and what the finding is related to. Out: the lines
-//! of the note, after bytes that are there.
+//! In: the text that is reported on, and a note. Out: its lines, after bytes that are there.
 
-ghost use Rattle.std.specs.Prelude.{◌≡◌, ◌^◌, ◌<◌, ◌++◌, length, OnOk};
+ghost use Rattle.std.specs.Prelude.{◌≡◌, ◌^◌, ◌<◌, ◌++◌, length, option_map, OnOk};
 ghost use Rattle.snl_excerpt.specs.Columns.{IsCursor};
-ghost use Rattle.snl_report.specs.Notes.{is_near, note_at, note_by, note_head, note_text, note_word};
+ghost use Rattle.snl_report.specs.Noted.{said_of};
+ghost use Rattle.snl_report.specs.Notes.{note_at, note_by, note_head, note_text, note_word};
 
 use crate::block::{put_end, put_lines};
 use crate::head::{put_name, put_place};
+use crate::noted::Note;
 use crate::paint::{Paint, Part, put_off, put_on};
 use crate::reported::Reported;
 use snl_excerpt::{Cursor, text_start};
 use snl_lex::Line;
-use snl_related::{Related, RelatedKind, words_of};
 use std::alloc::AllocError;
-
-/// Whether it is told beside the marks, and has no note.
-pub fn is_near(kind: RelatedKind) -> bool
-    ensures { result ≡ is_near kind }
-{
-    matches!(kind, RelatedKind::Near)
-}
 
 #[tactic(auto, unfolding(crate::specs::Notes::note_word))]
 fn put_note_word(out: &mut Vec<u8>, paint: Paint) -> Result<(), AllocError>
@@ -65,37 +58,40 @@ fn put_note_at(
     reported: Reported,
     from: Cursor,
     line: Line,
-    related: Related,
+    note: Note,
 ) -> Result<(), AllocError>
     requires { IsCursor reported.text.now from }
     ensures { OnOk result (out.new.items ≡ out.old.items ++ note_at reported.entry.style.paint
-        reported.entry.name.now reported.entry.text.now from.offset from.before line related) }
+        reported.entry.name.now reported.entry.text.now from.offset from.before line (said_of note.entry)) }
 {
     let (paint, text) = (reported.style.paint, reported.text);
-    let words = words_of(related.kind);
-    put_note_head(out, paint, reported.name, text, line, from.column(), words)?;
-    put_lines(out, paint, text, from, line.number, related.span.len)?;
+    put_note_head(
+        out,
+        paint,
+        reported.name,
+        text,
+        line,
+        from.column(),
+        note.words,
+    )?;
+    put_lines(out, paint, text, from, line.number, note.span.len)?;
     put_end(out, paint)?;
     Ok(())
 }
 
-/// Puts the note on what a finding is related to, if it is related to a place.
-pub fn put_note(
-    out: &mut Vec<u8>,
-    reported: Reported,
-    related: Option<Related>,
-) -> Result<(), AllocError>
+/// Puts a note, if there is one that has lines of its own.
+pub fn put_note(out: &mut Vec<u8>, reported: Reported, note: Option<Note>) -> Result<(), AllocError>
     ensures { OnOk result (out.new.items ≡ out.old.items ++ note_text reported.entry.style.paint
-        reported.entry.name.now reported.entry.text.now related) }
+        reported.entry.name.now reported.entry.text.now (option_map said_of note.entry)) }
 {
-    let Some(related) = related else {
+    let Some(note) = note else {
         return Ok(());
     };
-    if is_near(related.kind) {
+    if note.is_near {
         return Ok(());
     }
-    let from = text_start().at(reported.text, related.span.start);
-    let line = reported.lines.line_by(reported.text, related.span.start);
-    put_note_at(out, reported, from, line, related)?;
+    let from = text_start().at(reported.text, note.span.start);
+    let line = reported.lines.line_by(reported.text, note.span.start);
+    put_note_at(out, reported, from, line, note)?;
     Ok(())
 }

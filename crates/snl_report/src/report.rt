@@ -2,13 +2,14 @@
 //! In: a name, and a session over the text. Out: a block for each of the text's diagnostics, and how
 //! many there are, to a watched writer. One block is in memory at a time.
 
-ghost use Rattle.std.specs.Prelude.{◌≡◌, ℕ, ◌^◌, ◌<◌, ◌||◌, [], ◌++◌, List, length, IfOk, OnOk, flat_map, is_err};
+ghost use Rattle.std.specs.Prelude.{◌≡◌, ℕ, ◌^◌, ◌<◌, ◌||◌, [], ◌++◌, List, length, IfOk, OnOk, flat_map, is_err, option_map};
 ghost use Rattle.snl_excerpt.specs.Columns.{IsCursor};
 ghost use Rattle.snl_kept.specs.Diagnostics.{diagnostics_of};
 ghost use Rattle.snl_kept.specs.Kept.{IsListed};
 ghost use Rattle.snl_report.specs.Faults.{is_unwritten};
 ghost use Rattle.snl_report.specs.Formed.{formed, formed_at};
-ghost use Rattle.snl_report.specs.Reports.{blocks, name_line, plain_block, related_block, report_of, sum_line};
+ghost use Rattle.snl_report.specs.Noted.{said_of};
+ghost use Rattle.snl_report.specs.Reports.{blocks, name_line, plain_block, noted_block, report_of, sum_line};
 ghost use Rattle.snl_script.specs.Said.{Said, Written};
 ghost use Rattle.snl_script.specs.Watched.{failed_of, inner_of};
 
@@ -16,18 +17,19 @@ use crate::block::put_block;
 use crate::form::{Form, Style};
 use crate::formed::put_formed;
 use crate::note::put_note;
+use crate::noted::{Note, find_note};
 use crate::reported::Reported;
 use snl_cut::OutOfMemory;
 use snl_excerpt::{Cursor, put_shown, text_start};
 use snl_questions::all_tokens;
-use snl_related::{Related, Relations};
+use snl_related::Relations;
 use snl_script::{Page, Watched, WriteFault, put_sum};
 use snl_session::{Diagnostic, Session};
 use std::alloc::{AllocError, Global};
 use std::io::Write;
 
-/// So many findings are told with what they are related to, the first ones.
-const MOST_RELATED: usize = 100;
+/// So many findings are told with their notes, the first ones.
+const MOST_NOTED: usize = 100;
 
 /// Why a report broke off.
 #[derive(Clone, Copy, Debug, PartialEq, Eq)]
@@ -75,20 +77,20 @@ fn put_finding(
     reported: Reported,
     from: Cursor,
     diagnostic: &Diagnostic,
-    related: Option<Related>,
+    note: Option<Note>,
 ) -> Result<(), AllocError>
     requires { IsCursor reported.text.now from }
     ensures { OnOk result (room.new.items ≡ room.old.items ++ formed_at reported.entry.style.paint
         reported.entry.style.form reported.entry.name.now reported.entry.text.now from.offset from.before
-        diagnostic.now related) }
+        diagnostic.now (option_map said_of note.entry)) }
 {
     match reported.style.form {
         Form::Report => {
-            put_block(room, reported, from, diagnostic, related)?;
-            put_note(room, reported, related)?;
+            put_block(room, reported, from, diagnostic, note)?;
+            put_note(room, reported, note)?;
             Ok(())
         }
-        _ => put_formed(alloc, room, reported, from, diagnostic, related),
+        _ => put_formed(alloc, room, reported, from, diagnostic, note),
     }
 }
 
@@ -99,16 +101,16 @@ fn put_alone(
     reported: Reported,
     from: Cursor,
     diagnostic: &Diagnostic,
-    related: Option<Related>,
+    note: Option<Note>,
 ) -> Result<Cursor, AllocError>
     requires { IsCursor reported.text.now from }
     ensures put { OnOk result (room.new.items ≡ formed reported.entry.style
-        reported.entry.name.now reported.entry.text.now diagnostic.now related) }
+        reported.entry.name.now reported.entry.text.now diagnostic.now (option_map said_of note.entry)) }
     ensures cursor { IfOk result (λ here. IsCursor reported.entry.text.now here) }
 {
     let here = from.at(reported.text, diagnostic.offset);
     room.clear();
-    put_finding(alloc, room, reported, here, diagnostic, related)?;
+    put_finding(alloc, room, reported, here, diagnostic, note)?;
     Ok(here)
 }
 
@@ -121,21 +123,21 @@ fn say_block<W: Write>(
     reported: Reported,
     from: Cursor,
     diagnostic: &Diagnostic,
-    related: Option<Related>,
+    note: Option<Note>,
 ) -> Result<Cursor, ReportFault>
     requires { IsCursor reported.text.now from }
     ensures said { Said result (W.contents (inner_of out.old)) (W.contents (inner_of out.new)) page.new
-        (page.old ++ formed reported.entry.style reported.entry.name.now reported.entry.text.now diagnostic.now related) }
+        (page.old ++ formed reported.entry.style reported.entry.name.now reported.entry.text.now diagnostic.now (option_map said_of note.entry)) }
     ensures cursor { IfOk result (λ here. IsCursor reported.entry.text.now here) }
     ensures failed { failed_of out.new ≡ (failed_of out.old || is_unwritten result) }
 {
-    let here = put_alone(alloc, room, reported, from, diagnostic, related)?;
+    let here = put_alone(alloc, room, reported, from, diagnostic, note)?;
     page.put(out, room.as_slice())?;
     Ok(here)
 }
 
-/// Says the block of a finding with what it is related to.
-fn say_related_block<W: Write>(
+/// Says the block of a finding with its note.
+fn say_noted_block<W: Write>(
     alloc: Global,
     page: &mut Page,
     out: &mut Watched<W>,
@@ -149,16 +151,25 @@ fn say_related_block<W: Write>(
     requires same { relations.now.items.text.now ≡ reported.text.now }
     requires listed { IsListed relations.now.items.text.now relations.now.lists.now }
     ensures said { Said result (W.contents (inner_of out.old)) (W.contents (inner_of out.new)) page.new
-        (page.old ++ related_block reported.entry.style reported.entry.name.now reported.entry.text.now diagnostic.now) }
+        (page.old ++ noted_block reported.entry.style reported.entry.name.now reported.entry.text.now diagnostic.now) }
     ensures cursor { IfOk result (λ here. IsCursor reported.entry.text.now here) }
     ensures failed { failed_of out.new ≡ (failed_of out.old || is_unwritten result) }
 {
-    let related = relations.related_to(diagnostic)?;
-    say_block(alloc, page, out, room, reported, from, diagnostic, related)
+    let noted = find_note(relations, diagnostic)?;
+    say_block(
+        alloc,
+        page,
+        out,
+        room,
+        reported,
+        from,
+        diagnostic,
+        noted.note(),
+    )
 }
 
-/// Says the blocks of diagnostics, each with what it is related to.
-fn say_related_blocks<W: Write>(
+/// Says the blocks of diagnostics, each with its note.
+fn say_noted_blocks<W: Write>(
     alloc: Global,
     page: &mut Page,
     out: &mut Watched<W>,
@@ -170,13 +181,13 @@ fn say_related_blocks<W: Write>(
     requires same { relations.now.items.text.now ≡ reported.text.now }
     requires listed { IsListed relations.now.items.text.now relations.now.lists.now }
     ensures said { Said result (W.contents (inner_of out.old)) (W.contents (inner_of out.new)) page.new
-        (page.old ++ flat_map (related_block reported.entry.style reported.entry.name.now reported.entry.text.now)
+        (page.old ++ flat_map (noted_block reported.entry.style reported.entry.name.now reported.entry.text.now)
         diagnostics.now) }
     ensures failed { failed_of out.new ≡ (failed_of out.old || is_unwritten result) }
 {
     let mut from = text_start();
     for diagnostic in diagnostics {
-        from = say_related_block(
+        from = say_noted_block(
             alloc, page, out, room, reported, relations, from, diagnostic,
         )?;
     }
@@ -204,7 +215,7 @@ fn say_plain_blocks<W: Write>(
     Ok(())
 }
 
-/// Says the blocks of the first diagnostics of a session's text, each with what it is related to.
+/// Says the blocks of the first diagnostics of a session's text, each with its note.
 fn say_first_blocks<W: Write>(
     alloc: Global,
     page: &mut Page,
@@ -216,7 +227,7 @@ fn say_first_blocks<W: Write>(
 ) -> Result<(), ReportFault>
     requires { session.now ≡ reported.text.now }
     ensures said { Said result (W.contents (inner_of out.old)) (W.contents (inner_of out.new)) page.new
-        (page.old ++ flat_map (related_block reported.entry.style reported.entry.name.now reported.entry.text.now)
+        (page.old ++ flat_map (noted_block reported.entry.style reported.entry.name.now reported.entry.text.now)
         diagnostics.now) }
     ensures failed { failed_of out.new ≡ (failed_of out.old || is_unwritten result) }
 {
@@ -226,7 +237,7 @@ fn say_first_blocks<W: Write>(
     let lists = &session.kept().lists;
     let tokens = all_tokens(alloc, &lists.pieces)?;
     let relations = Relations::of_text(alloc, reported.text, lists, &tokens);
-    say_related_blocks(alloc, page, out, room, reported, &relations, diagnostics)
+    say_noted_blocks(alloc, page, out, room, reported, &relations, diagnostics)
 }
 
 /// Says the blocks of all diagnostics.
@@ -244,7 +255,7 @@ fn say_blocks<W: Write>(
     ensures failed { failed_of out.new ≡ (failed_of out.old || is_unwritten result) }
 {
     let all = session.diagnostics();
-    let (first, others) = all.split_at(MOST_RELATED.min(all.len()));
+    let (first, others) = all.split_at(MOST_NOTED.min(all.len()));
     say_first_blocks(alloc, page, out, room, reported, session, first)?;
     say_plain_blocks(alloc, page, out, room, reported, others)
 }

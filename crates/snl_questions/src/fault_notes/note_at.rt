@@ -127,7 +127,7 @@ fn note_at_place(
 /// the parser doesn't blame that token, or more than 4,095 tokens of its item are before it. The
 /// tokens before it are parsed some 100 times.
 #[tactic(auto, unfolding(crate::specs::FaultNotes::fault_noted))]
-pub(crate) fn note_among(
+pub fn fault_note_of(
     alloc: Global,
     lists: &Lists,
     items: &TextItems,
@@ -162,5 +162,5 @@ pub fn note_at<'a>(
         text,
         items: ItemTokens::of_text(text, &tokens, &lists.items.ends),
     };
-    note_among(alloc, lists, &items, offset)
+    fault_note_of(alloc, lists, &items, offset)
 }

@@ -7,7 +7,7 @@ ghost use Rattle.snl_questions.specs.FaultNotes.{fault_told};
 ghost use Rattle.snl_questions.specs.Hover.{further, hover_at, hover_by_note, hover_of, hover_over};
 ghost use Rattle.snl_questions.specs.Hover.{named_at, noted_at, table_lines, told_of};
 
-use crate::fault_notes::note_at::{FaultNote, note_among};
+use crate::fault_notes::note_at::{FaultNote, fault_note_of};
 use crate::hovers::channels::put_channels;
 use crate::hovers::declarations::declaration_line;
 use crate::hovers::flags::put_flag;
@@ -90,7 +90,7 @@ fn noted_at(
     ensures { IfOk result (λ hover. option_map (λ x. told_of x) hover
         ≡ noted_at items.now.text.now offset) }
 {
-    let Some(note) = note_among(alloc, lists, items, offset)? else {
+    let Some(note) = fault_note_of(alloc, lists, items, offset)? else {
         return Ok(None);
     };
     let hover = hover_by_note(alloc, note)?;
