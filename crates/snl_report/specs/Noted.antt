@@ -1,9 +1,8 @@
 -- What a finding is told with: a place that it is related to, or what may come where it stands.
-use Rattle.std.specs.Prelude.{ℕ, Bool, true, false, List, Option, Some, None, if◌then◌else◌, option_map, string_bytes}
+use Rattle.std.specs.Prelude.{ℕ, Bool, true, false, List, Option, Some, None, if◌then◌else◌, option_map}
 use Rattle.snl_codes.specs.declared.code.Code.{Code}
 use Rattle.snl_codes.specs.declared.code.Code.TheVariants.{E02}
 use Rattle.snl_kept.specs.declared.found.findings.Diagnostic.{Diagnostic}
-use Rattle.snl_questions.specs.declared.fault_notes.note_at.FaultNote.{FaultNote}
 use Rattle.snl_questions.specs.FaultNotes.{FaultTold, fault_noted, fault_told}
 use Rattle.snl_related.specs.declared.related.Related.{Related}
 use Rattle.snl_related.specs.declared.related.RelatedKind.{RelatedKind}
