@@ -5,9 +5,10 @@
 # ./lsp --build proves and builds the server of a clone.
 set -u
 
-# What lines on standard error begin with, and the crate of the program.
+# What lines on standard error begin with, the crate of the program, and the words that it gets.
 self=lsp
 target=snl_lsp
+arguments=()
 
 # Says something in a line of its own, also where a terminal's line tells how far the build is.
 say() {

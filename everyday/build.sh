@@ -8,6 +8,7 @@ binary=crates/$target/out/$target
 
 bring_up_to_date() {
     read_crates
+    built_on=()
     find_built_on "$target"
     # Proofs are no part of this: whatever becomes of them, a program that was proved stays proved.
     find_folders src specs

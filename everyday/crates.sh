@@ -134,7 +134,7 @@ work() {
     cd "$3/crates/$1" || return
     if [ "$1" = "$target" ]; then
         # rt runs the program that it has built: all went well where that ends with status 0.
-        trial | rt run --jobs "$2"
+        trial | rt run --jobs "$2" ${arguments:+-- "${arguments[@]}"}
     else
         rt check --jobs "$2" && rt lib --jobs "$2"
     fi
