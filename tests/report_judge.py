@@ -1,17 +1,25 @@
 """A second judge of reports. It says in plain Python what docs/FORMATS.md says of a report: the
 blocks of a text, by what `snl_cli` finds there, and by where `snl_lsp` says that is.
 
-`snl_lsp` reads UTF-8 alone. So it is given a text in which each byte that is none is another one
-that begins no token either: all places stay as they are.
+`snl_lsp` reads UTF-8 alone, and tells 1,000 findings. So it is given a text in which each byte that
+is none is another one that begins no token either: all places stay as they are.
 """
 import json
+import os
 import re
 import subprocess
+import sys
 import unicodedata
+
+sys.path.insert(0, os.path.join(os.path.dirname(os.path.realpath(__file__)), "lsp"))
+# pylint: disable=wrong-import-position
+from protocol import bodies, did_open, frame, initialize, note, request, run
 
 TAB = 8
 BEFORE, AFTER = 80, 120
+MOST = 1000
 FINDING = re.compile(rb"(?:(.*):)?(\d+): ([EW]\d\d) ([^:]*)", re.S)
+MARKED = re.compile(rb'^[ \t]*#[^"\n]*"((?:[^"\\\n]|\\.)*)"', re.M)
 HIDDEN = (
     (0, 0x1F), (0x7F, 0x9F), (0xAD, 0xAD), (0x61C, 0x61C), (0x200B, 0x200F), (0x2028, 0x202E),
     (0x2060, 0x206F), (0xFEFF, 0xFEFF),
@@ -21,14 +29,9 @@ HIDDEN = (
 # ---- what is found, and where
 
 
-def frame(message):
-    body = json.dumps(message).encode()
-    return b"Content-Length: %d\r\n\r\n%s" % (len(body), body)
-
-
 def findings_of(cli, text):
-    """What `snl_cli` finds: for each the name of a file or none, a line, a code and a message; and
-    its last line."""
+    """What `snl_cli` finds: for each the printed name of a file or none, a line, a code and a
+    message; and its last line."""
     script = b"edit 0 0 %d\n%s\ncheck\n" % (len(text), text)
     made = subprocess.run([cli], input=script, capture_output=True, timeout=120)
     lines = made.stdout.split(b"\n")
@@ -38,7 +41,7 @@ def findings_of(cli, text):
 
 
 def in_utf8(text):
-    """The text with a byte `\\x01` in the place of each that is no UTF-8."""
+    """The text with a byte 1 in the place of each that is no UTF-8."""
     made, at = bytearray(text), 0
     while at < len(text):
         size = size_of(text[at : at + 4])
@@ -48,21 +51,13 @@ def in_utf8(text):
     return bytes(made)
 
 
-def ranges_of(server, text):
+def places_of(server, text):
     """Where `snl_lsp` tells its findings: for each the offsets of its ends, and its code."""
     known = in_utf8(text)
-    document = {"uri": "file:///a", "languageId": "snl", "version": 0, "text": known.decode()}
-    general = {"general": {"positionEncodings": ["utf-8"]}}
-    talk = [
-        {"id": 1, "method": "initialize", "params": {"capabilities": general}},
-        {"method": "textDocument/didOpen", "params": {"textDocument": document}},
-        {"id": 2, "method": "shutdown"},
-        {"method": "exit"},
-    ]
-    talk = b"".join(frame({"jsonrpc": "2.0", **it}) for it in talk)
-    made = subprocess.run([server], input=talk, capture_output=True, timeout=120)
-    body = next(it for it in made.stdout.split(b"\r\n\r\n") if b"publishDiagnostics" in it)
-    items = json.JSONDecoder().raw_decode(body.decode())[0]["params"]["diagnostics"]
+    begin = [initialize(["utf-8"]), did_open("file:///a", known.decode())]
+    end = [request(2, "shutdown"), note("exit")]
+    told = bodies(run(server, b"".join(map(frame, [*begin, *end])))[0])
+    items = next(json.loads(it)["params"]["diagnostics"] for it in told if b"uri" in it)
     starts = [0] + [it.end() for it in re.finditer(b"\n", known)]
     ends = ([it["range"][end] for end in ("start", "end")] for it in items)
     places = ([starts[it["line"]] + it["character"] for it in both] for both in ends)
@@ -90,10 +85,10 @@ def width_of(letter):
     return 2 if unicodedata.east_asian_width(letter) in ("W", "F") else 1
 
 
-def shown(data, column, rest=b""):
+def shown(data, column=0, rest=b""):
     """How bytes are shown from a column on, and the column after them. What comes after them in the
     text tells where a character or a line ends."""
-    told, at, whole = "", 0, data + rest
+    told, at, whole = "", 0, data + rest[:4]
     while at < len(data):
         size = size_of(whole[at : at + 4])
         letter = whole[at : at + size].decode() if size else ""
@@ -119,52 +114,53 @@ def excerpt(text, start, stop):
     last = text.find(b"\n", start)
     last = len(text) if last < 0 else last
     begin, end = max(first, start - BEFORE), min(last, start + AFTER)
+    told, column = "", 0
     if begin > first:
         # A character that begins before is left out.
-        skipped = re.match(rb"[\x80-\xbf]{0,3}", text[begin:start])
-        begin += len(skipped[0])
+        told, column = "..", 2
+        begin += len(re.match(rb"[\x80-\xbf]{0,3}", text[begin:start])[0])
     stop = min(stop, end)
-    front, column = (".." if first < begin else ""), 2 if first < begin else 0
-    told, column = shown(text[begin:start], column, text[start:])
+    front, column = shown(text[begin:start], column, text[start:])
     marked, after = shown(text[start:stop], column, text[stop:])
-    rest, _ = shown(text[stop:end], after, text[end:])
-    dots = ".." if end < last else ""
-    return front + told + marked + rest + dots, " " * column + "^" + "~" * (after - column - 1)
+    back, _ = shown(text[stop:end], after, text[end:])
+    told += front + marked + back + (".." if end < last else "")
+    return told, " " * column + "^" + "~" * (after - column - 1)
 
 
 # ---- the report
 
 
-def is_open(text, start, code):
-    """Whether a comment or a block of C code begins there that nothing ends."""
-    return code == "E01" and text[start : start + 2] in (b"/*", b"%{")
+def file_shown(printed, text):
+    """How the name of a file in a line marker is shown, by how `snl_cli` prints it."""
+    for name in MARKED.findall(text):
+        if re.sub(rb"[^ -~]", lambda it: b"\\x%02x" % it[0][0], name) == printed:
+            return shown(name)[0]
+    return printed.decode()
 
 
 def block(name, text, finding, place):
     """What is told of a finding: three lines."""
     file, line, code, message = finding
     start, stop, _ = place
-    stop = start + 2 if is_open(text, start, code) else stop
-    own = text.count(b"\n", 0, start) + 1
+    if code == "E01" and text[start : start + 2] in (b"/*", b"%{"):
+        # A comment or C code that nothing ends.
+        stop = start + 2
+    where = name if file is None else file_shown(file, text)
     column = start - text.rfind(b"\n", 0, start)
-    shown_line, marks = excerpt(text, start, stop)
-    where = name if file is None else file.decode()
-    width = max(5, len(str(own)))
+    line_shown, marks = excerpt(text, start, stop)
+    gutter = f"{line:5} | "
     return (
         f"{where}:{line}:{column}: {code} {message}\n"
-        f"{own:5} | {shown_line}\n"
-        f"{'':{width}} | {marks}\n"
+        f"{gutter}{line_shown}\n{' ' * (len(gutter) - 3)} | {marks}\n"
     )
 
 
 def report_of(programs, name, text):
-    """The report on a text, and how many errors and warnings it has."""
+    """The report on a text, and the places that it is made of."""
     cli, server = programs
-    findings, end = findings_of(cli, text)
-    places = ranges_of(server, text)
-    assert [it[2] for it in findings][:1000] == [it[2] for it in places], (findings, places)
-    told = shown(name, 0)[0]
-    blocks = [block(told, text, *it) for it in zip(findings, places)]
-    errors, warnings = (int(end.split()[it]) for it in (1, 3))
-    whole = "".join(blocks) + f"{told}: errors {errors} warnings {warnings}\n"
-    return whole.encode(), errors
+    findings, numbers = findings_of(cli, text)
+    places = places_of(server, text)
+    assert [it[2] for it in findings[:MOST]] == [it[2] for it in places], (findings, places)
+    told = shown(name)[0]
+    blocks = "".join(block(told, text, *it) for it in zip(findings, places))
+    return f"{blocks}{told}: {numbers.decode()}\n".encode(), list(zip(findings, places))
