@@ -5,49 +5,48 @@
 small=65536
 
 report_all() {
-    local number made=() sent=() sizes=() bodies=() chosen=${GLIBC_TUNABLES-$tunables}
+    local number sent=() bodies=() sizes=() chosen=${GLIBC_TUNABLES-$tunables} input
     for number in "${!names[@]}"; do
         [ "${texts[number]}" = "${files[number]}" ] || make_text "$number" || continue
-        made+=("$number")
-    done
-    measure
-    for number in "${made[@]}"; do
         take_text "$number" && sent+=("$number") && mark send $((number + 1))
     done
     [ "${#sent[@]}" -gt 0 ] || return 0
-    send | GLIBC_TUNABLES=$chosen "$program" "${arguments[@]}"
+    exec {input}> >(GLIBC_TUNABLES=$chosen exec "$program" "${arguments[@]}")
+    # The program may end before it has read all.
+    trap '' PIPE
+    send >&"$input"
+    trap 'exit 2' PIPE
+    exec {input}>&-
+    wait $!
     mark end $?
 }
 
-# Puts the sizes of the texts into sizes, all by one process; none, where one is not known.
-measure() {
-    local number paths=() found=()
-    for number in "${made[@]}"; do paths+=("${texts[number]}"); done
-    [ "${#paths[@]}" = 0 ] || mapfile -t found < <(stat -L -c %s -- "${paths[@]}" 2> /dev/null)
-    [ "${#found[@]}" = "${#made[@]}" ] || return 0
-    for number in "${!found[@]}"; do sizes[made[number]]=${found[number]}; done
-}
-
 # Takes in a text, by its number: a small one as it is, and another one in a copy, which stays as it
-# is while it is sent.
+# is while it is sent. A byte 0 is nothing that the shell can hold.
 take_text() {
-    local LC_ALL=C text=${texts[$1]} body=() size=${sizes[$1]-}
-    if [ "${size:-$limit}" -le "$small" ]; then
-        { mapfile -d '' -t body < "$text"; } 2> /dev/null
-        bodies[$1]=${body-}
-        # A byte 0 is nothing that the shell can hold.
-        [ "${#bodies[$1]}" != "$size" ] || return 0
+    local LC_ALL=C text body=''
+    { exec {text}< "${texts[$1]}"; } 2> /dev/null \
+        || { unable "${names[$1]} cannot be read" && return 1; }
+    if IFS= read -r -d '' -n $((small + 1)) -u "$text" body; then
+        exec {text}<&-
+        copy_text "$1"
+    else
+        exec {text}<&-
+        bodies[$1]=$body sizes[$1]=${#body}
     fi
-    copy_text "$1"
 }
 
 # Takes in a copy of a text, if that has not too many bytes.
 copy_text() {
+    local copied=${texts[$1]}
     [ -n "${room-}" ] || . "$parts/texts.sh"
-    [[ ${texts[$1]} = "$room/"* ]] || { copy "${texts[$1]}" $((limit + 1)) > "$room/copy$1" \
-        && texts[$1]=$room/copy$1; } || { unable "${names[$1]} cannot be read" && return 1; }
-    sizes[$1]=$(stat -c %s "${texts[$1]}")
-    unset "bodies[$1]"
+    if [[ $copied != "$room"/* ]]; then
+        copied=$room/copy$1
+        copy "${texts[$1]}" $((limit + 1)) > "$copied" \
+            || { unable "${names[$1]} cannot be read" && return 1; }
+    fi
+    texts[$1]=$copied
+    sizes[$1]=$(stat -c %s "$copied")
     [ "${sizes[$1]}" -le "$limit" ] && return
     unable "${names[$1]} is over $limit bytes${before:+ after the preprocessor}"
     return 1
@@ -62,6 +61,6 @@ send() {
             printf %s "${bodies[number]}"
         else
             cat "${texts[number]}"
-        fi
+        fi || return
     done
 } 2> /dev/null
