@@ -18,8 +18,8 @@ _snl_check() {
             ;;
     esac
     if [ -z "$choices" ] && [[ $word = -* ]]; then
-        choices='--cpp -I -D --lines --list --table --dot --report --format= --strict --quiet'
-        choices+=' --explain --version --build --help --'
+        choices='--cpp -I -D --lines --list --table --dot --report --plain --format='
+        choices+=' --strict --quiet --explain --version --build --help --'
     fi
     if [ -n "$choices" ]; then
         mapfile -t COMPREPLY < <(compgen -W "$choices" -- "$word")
