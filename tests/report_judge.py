@@ -142,8 +142,8 @@ def block(name, text, finding, place):
     """What is told of a finding: three lines."""
     file, line, code, message = finding
     start, stop, _ = place
-    if code == "E01" and text[start : start + 2] in (b"/*", b"%{"):
-        # A comment or C code that nothing ends.
+    if stop > start and text[start : start + 2] in (b"/*", b"%{"):
+        # A token that begins so is a comment or C code that nothing ends.
         stop = start + 2
     where = name if file is None else file_shown(file, text)
     column = start - text.rfind(b"\n", 0, start)
