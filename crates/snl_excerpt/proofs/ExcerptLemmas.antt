@@ -1,7 +1,6 @@
 -- The parts of a shown line make the line.
-use Rattle.std.proofs.Common.{◌≡◌, ℕ, ◌+◌, ◌-◌, List, ◌++◌, Bool, drop, min, refl, arith}
+use Rattle.std.proofs.Common.{◌≡◌, ℕ, ◌+◌, ◌-◌, List, ◌++◌, Bool, drop, min, refl}
 use Rattle.std.specs.Prelude.{encode_utf8_all}
-use Rattle.snl_excerpt.specs.declared.excerpt.Marks.{Marks}
 use Rattle.snl_excerpt.specs.Excerpts.{back_line, dots_if, excerpt, front_line, marked_line, marks_of, stop_column}
 use Rattle.snl_excerpt.specs.Glyphs.{text_width}
 use Rattle.snl_excerpt.specs.Lines.{shown}

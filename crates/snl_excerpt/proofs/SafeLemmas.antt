@@ -1,14 +1,14 @@
 -- What is shown holds no character that is hidden, and printable ASCII is shown as it is.
-use Rattle.std.proofs.Common.{◌≡◌, ◌≢◌, ℕ, suc, zero, ◌+◌, ◌-◌, ◌/◌, ◌%◌, ◌<◌, ◌≤◌, ◌⊎◌, inl, inr, List, [], ◌∷◌, ◌++◌, length, take, drop, Bool, true, false, ◌==◌, ◌||◌, ◌&&◌, cond, Option, Some, None, refl, sym, ap, ◌∙◌, subst, arith, get_or, nat_eq, nat_lt, nat_le, absurd, codes}
+use Rattle.std.proofs.Common.{◌≡◌, ◌≢◌, ℕ, suc, zero, ◌+◌, ◌-◌, ◌/◌, ◌%◌, ◌<◌, ◌≤◌, ◌⊎◌, inl, inr, List, [], ◌∷◌, ◌++◌, length, Bool, true, false, ◌==◌, ◌||◌, ◌&&◌, cond, Option, Some, None, refl, ap, arith, nat_lt, nat_le, codes}
 use Rattle.std.specs.Prelude.{All, slice_index}
 use Rattle.std.specs.Char.{digit_char}
 use Rattle.std.specs.Int.{is_in_range}
 use Rattle.std.proofs.lemmas.Bool.Decides.{nat_tests}
-use Rattle.std.proofs.lemmas.List.Elements.{All-append, All-take}
+use Rattle.std.proofs.lemmas.List.Elements.{All-append, All-cons, All-head, All-nil, All-tail, All-take}
 use Rattle.bstr.specs.Utf8.{Decoded, decoded, good}
 use Rattle.snl_excerpt.specs.declared.glyph.Pen.{Pen}
 use Rattle.snl_excerpt.specs.Glyphs.{byte_escape, char_escape, ends_line, glyph_of, is_hidden, shown_char, tab, text_width}
-use Rattle.snl_excerpt.specs.Lines.{pen_after, pen_as, pen_by, put_at, put_by, shown}
+use Rattle.snl_excerpt.specs.Lines.{pen_after, pen_as, put_at, put_by, shown}
 use Rattle.snl_excerpt.specs.Safe.{IsByte, IsNoCommand, IsPrintable, TurnsNothing}
 
 -- ---- what is not hidden
@@ -59,11 +59,25 @@ not_hidden c h8 =
       isolates = outside 0x2060 0x206F c (or-right _ _ h7);
     }
 
+-- ---- each element, by recursion
+
+abbrev Each : (P : ℕ → Type 0) → List ℕ → Type 0
+Each P [] = Unit {0}
+Each P (x ∷ xs) = P x × Each P xs
+
+to_all : (P : ℕ → Type 0) (xs : List ℕ) → Each P xs → All P xs
+to_all P [] h = All-nil P
+to_all P (x ∷ xs) h = All-cons P x xs h.0 (to_all P xs h.1)
+
+from_all : (P : ℕ → Type 0) (xs : List ℕ) → All P xs → Each P xs
+from_all P [] h = tt
+from_all P (x ∷ xs) h = (All-head P x xs h, from_all P xs (All-tail P x xs h))
+
 -- ---- any claim that holds of what is not hidden, and of printable ASCII
 
-record Holds (P : ℕ → Type 0) : Type 0 where
-  plain : (c : ℕ) → is_hidden c ≡ false → P c
-  ascii : (c : ℕ) → 32 ≤ c → c < 127 → P c
+pub record Holds (P : ℕ → Type 0) : Type 0 where
+  pub plain : (c : ℕ) → is_hidden c ≡ false → P c
+  pub ascii : (c : ℕ) → 32 ≤ c → c < 127 → P c
 
 digit_bounds : (d : ℕ) → d < 16 → (32 ≤ digit_char d) × (digit_char d < 127)
 digit_bounds d h = by_test (nat_lt d 10) refl
@@ -75,20 +89,34 @@ digit_bounds d h = by_test (nat_lt d 10) refl
 digit : (P : ℕ → Type 0) → Holds P → (d : ℕ) → d < 16 → P (digit_char d)
 digit P holds d h = let bounds = digit_bounds d h in holds.ascii (digit_char d) bounds.0 bounds.1
 
-byte_holds : (P : ℕ → Type 0) → Holds P → (b : ℕ) → b < 256 → All P (byte_escape b)
-byte_holds P holds b h = (holds.ascii 92 (omega arith) (omega arith), holds.ascii 120 (omega arith) (omega arith), digit P holds (b / 16) (omega arith), digit P holds (b % 16) (omega arith), tt)
+byte_holds : (P : ℕ → Type 0) → Holds P → (b : ℕ) → b < 256 → Each P (byte_escape b)
+byte_holds P holds b h = (holds.ascii 92 (omega arith) (omega arith), (holds.ascii 120 (omega arith) (omega arith), (digit P holds (b / 16) (omega arith), (digit P holds (b % 16) (omega arith), tt))))
 
-escape_holds : (P : ℕ → Type 0) → Holds P → (c : ℕ) → c < 65536 → All P (char_escape c)
+escape_holds : (P : ℕ → Type 0) → Holds P → (c : ℕ) → c < 65536 → Each P (char_escape c)
 escape_holds P holds c h = (
   holds.ascii 92 (omega arith) (omega arith),
-  holds.ascii 117 (omega arith) (omega arith),
-  holds.ascii 123 (omega arith) (omega arith),
-  digit P holds (c / 256 / 16) (omega arith),
-  digit P holds (c / 256 % 16) (omega arith),
-  digit P holds (c % 256 / 16) (omega arith),
-  digit P holds (c % 256 % 16) (omega arith),
-  holds.ascii 125 (omega arith) (omega arith),
-  tt,
+  (
+    holds.ascii 117 (omega arith) (omega arith),
+    (
+      holds.ascii 123 (omega arith) (omega arith),
+      (
+        digit P holds (c / 256 / 16) (omega arith),
+        (
+          digit P holds (c / 256 % 16) (omega arith),
+          (
+            digit P holds (c % 256 / 16) (omega arith),
+            (
+              digit P holds (c % 256 % 16) (omega arith),
+              (
+                holds.ascii 125 (omega arith) (omega arith),
+                tt,
+              ),
+            ),
+          ),
+        ),
+      ),
+    ),
+  ),
 )
 
 -- ---- tests that fail
@@ -136,38 +164,39 @@ printable_plain b h =
 
 -- ---- what is shown
 
-either : (P : ℕ → Type 0) (b : Bool) (xs ys : List ℕ) → All P xs → All P ys → All P (cond b xs ys)
+either : (P : ℕ → Type 0) (b : Bool) (xs ys : List ℕ) → Each P xs → Each P ys → Each P (cond b xs ys)
 either P true xs ys h k = h
 either P false xs ys h k = k
 
-char_holds : (P : ℕ → Type 0) → Holds P → (c : ℕ) → All P (shown_char c)
+char_holds : (P : ℕ → Type 0) → Holds P → (c : ℕ) → Each P (shown_char c)
 char_holds P holds c = by_test (is_hidden c) refl
   where
-    by_test : (b : Bool) → is_hidden c ≡ b → All P (cond b (char_escape c) (c ∷ []))
+    by_test : (b : Bool) → is_hidden c ≡ b → Each P (cond b (char_escape c) (c ∷ []))
     by_test true e = escape_holds P holds c (hidden_small c e)
     by_test false e = (holds.plain c e, tt)
 
-tab_holds : (P : ℕ → Type 0) → Holds P → (column : ℕ) → All P (tab column)
+tab_holds : (P : ℕ → Type 0) → Holds P → (column : ℕ) → Each P (tab column)
 tab_holds P holds column =
     let blank : P 32 = holds.ascii 32 (omega arith) (omega arith) in
-    All-take P (8 - column % 8) (codes "        ") (blank, blank, blank, blank, blank, blank, blank, blank, tt)
+    let eight : Each P (codes "        ") = (blank, (blank, (blank, (blank, (blank, (blank, (blank, (blank, tt)))))))) in
+    from_all P (tab column) (All-take P (8 - column % 8) (codes "        ") (to_all P (codes "        ") eight))
 
-glyph_holds : (P : ℕ → Type 0) → Holds P → (column : ℕ) (char : Option ℕ) (bytes : List ℕ) → IsByte (slice_index bytes 0) → All P (glyph_of column char bytes)
+glyph_holds : (P : ℕ → Type 0) → Holds P → (column : ℕ) (char : Option ℕ) (bytes : List ℕ) → IsByte (slice_index bytes 0) → Each P (glyph_of column char bytes)
 glyph_holds P holds column None bytes h = byte_holds P holds (slice_index bytes 0) h
 glyph_holds P holds column (Some c) bytes h = either P (c == 9) _ _ (tab_holds P holds column) (either P (ends_line bytes) [] _ tt (char_holds P holds c))
 
-put_holds : (P : ℕ → Type 0) → Holds P → (pen : Pen) (bytes : List ℕ) → IsByte (slice_index bytes 0) → All P (put_at pen bytes)
+put_holds : (P : ℕ → Type 0) → Holds P → (pen : Pen) (bytes : List ℕ) → IsByte (slice_index bytes 0) → Each P (put_at pen bytes)
 unfolding put_at
 put_holds P holds pen bytes h = by_count pen.inside
   where
-    by_count : (n : ℕ) → All P (put_by n pen bytes)
+    by_count : (n : ℕ) → Each P (put_by n pen bytes)
     by_count zero = glyph_holds P holds pen.column (decoded bytes).char bytes h
     by_count (suc n) = tt
 
 pub shown_holds : (P : ℕ → Type 0) → Holds P → (count : ℕ) (pen : Pen) (bytes : List ℕ) → All IsByte bytes → All P (shown count pen bytes)
-shown_holds P holds zero pen bytes h = tt
-shown_holds P holds (suc count) pen [] h = tt
-shown_holds P holds (suc count) pen (b ∷ bytes) h = All-append P (put_at pen (b ∷ bytes)) (shown count (pen_after pen (b ∷ bytes)) bytes) (put_holds P holds pen (b ∷ bytes) h.0) (shown_holds P holds count (pen_after pen (b ∷ bytes)) bytes h.1)
+shown_holds P holds zero pen bytes h = All-nil P
+shown_holds P holds (suc count) pen [] h = All-nil P
+shown_holds P holds (suc count) pen (b ∷ bytes) h = All-append P (put_at pen (b ∷ bytes)) (shown count (pen_after pen (b ∷ bytes)) bytes) (to_all P (put_at pen (b ∷ bytes)) (put_holds P holds pen (b ∷ bytes) (All-head IsByte b bytes h))) (shown_holds P holds count (pen_after pen (b ∷ bytes)) bytes (All-tail IsByte b bytes h))
 
 -- ---- the laws
 
@@ -216,15 +245,17 @@ glyph_ascii column b bytes h =
     by_tests : (t r i : Bool) → t ≡ false → r ≡ false → i ≡ false → cond t (tab column) (cond (r && (slice_index (b ∷ bytes) 1 == 10)) [] (cond i (char_escape b) (b ∷ []))) ≡ b ∷ []
     by_tests t r i x y z = rw (x, y, z) refl
 
-pub shown_same : (bytes : List ℕ) (column : ℕ) → All IsPrintable bytes → shown (length bytes) (record { inside = 0; column = column }) bytes ≡ bytes
+same_step : (column b : ℕ) (bytes : List ℕ) (read : Decoded) → IsPrintable b → ((next : ℕ) → shown (length bytes) (record { inside = 0; column = next }) bytes ≡ bytes) → read ≡ good b 1 → glyph_of column read.char (b ∷ bytes) ++ shown (length bytes) (pen_as read (record { inside = 0; column = column }) (b ∷ bytes)) bytes ≡ b ∷ bytes
+same_step column b bytes read h more e =
+    let glyph = glyph_ascii column b bytes h in
+    rw (e, glyph) (ap (λ (l : List ℕ). b ∷ l) (more (column + text_width (b ∷ []))))
+
+same : (bytes : List ℕ) → Each IsPrintable bytes → (column : ℕ) → shown (length bytes) (record { inside = 0; column = column }) bytes ≡ bytes
 unfolding put_at pen_after
-shown_same [] column h = refl
-shown_same (b ∷ bytes) column h =
+same [] h column = refl
+same (b ∷ bytes) h column =
     let high : b < 127 = h.0.1 in
-    let read = decoded_ascii b bytes (omega arith) in
-    by_read (decoded (b ∷ bytes)) read
-  where
-    by_read : (d : Decoded) → d ≡ good b 1 → glyph_of column d.char (b ∷ bytes) ++ shown (length bytes) (pen_as d (record { inside = 0; column = column }) (b ∷ bytes)) bytes ≡ b ∷ bytes
-    by_read d e =
-        let glyph = glyph_ascii column b bytes h.0 in
-        rw (e, glyph) (ap (λ (l : List ℕ). b ∷ l) (shown_same bytes (column + text_width (b ∷ [])) h.1))
+    same_step column b bytes (decoded (b ∷ bytes)) h.0 (same bytes h.1) (decoded_ascii b bytes (omega arith))
+
+pub shown_same : (bytes : List ℕ) (column : ℕ) → All IsPrintable bytes → shown (length bytes) (record { inside = 0; column = column }) bytes ≡ bytes
+shown_same bytes column h = same bytes (from_all IsPrintable bytes h) column

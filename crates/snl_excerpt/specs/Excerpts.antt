@@ -13,7 +13,7 @@ dots_if goes_on = if goes_on then codes ".." else []
 abbrev pub front_of : Bool → (bytes : List ℕ) → (count : ℕ) → List ℕ
 front_of is_cut bytes count =
     dots_if is_cut ++ shown count
-        (record { inside = inside_of is_cut bytes; column = text_width (dots_if is_cut) }) bytes
+    (record { inside = inside_of is_cut bytes; column = text_width (dots_if is_cut) }) bytes
 
 -- What is shown of a line before a place that has so many bytes of it before it.
 unfoldable pub front_line : (text : List ℕ) → (place before : ℕ) → List ℕ
@@ -38,7 +38,7 @@ unfoldable pub back_line : (column : ℕ) → (bytes : List ℕ) → (len : ℕ)
 back_line column bytes len =
     marked_line column bytes (marked_count bytes len)
     ++ (marked_line (stop_column column bytes len) (drop (marked_count bytes len) bytes)
-        (after_count bytes - marked_count bytes len)
+    (after_count bytes - marked_count bytes len)
     ++ dots_if (goes_on bytes (after_count bytes)))
 
 -- The shown line of a place that has so many bytes of it before it, and so many marked ones from

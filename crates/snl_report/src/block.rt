@@ -13,6 +13,7 @@ use snl_kept::Diagnostic;
 use std::alloc::AllocError;
 
 /// The shown line of a place, and the line of marks under it.
+#[tactic(auto, unfolding(crate::specs::Blocks::excerpt_text))]
 fn put_lines(
     out: &mut Vec<u8>,
     text: &[u8],
@@ -34,6 +35,7 @@ fn put_lines(
 }
 
 /// Puts the lines of a finding, whose place is that of the cursor.
+#[tactic(auto, unfolding(crate::specs::Blocks::block_at))]
 pub fn put_block(
     out: &mut Vec<u8>,
     name: &[u8],
@@ -49,5 +51,6 @@ pub fn put_block(
 {
     put_head(out, name, text, from.column(), diagnostic)?;
     let len = extent(text, from.offset, diagnostic.subject);
-    put_lines(out, text, from, diagnostic.line, len)
+    put_lines(out, text, from, diagnostic.line, len)?;
+    Ok(())
 }

@@ -65,11 +65,8 @@ fn put_quoted(out: &mut Vec<u8>, bytes: &[u8]) -> Result<(), AllocError>
 }
 
 /// The code, the message and what it quotes.
-fn put_finding(
-    out: &mut Vec<u8>,
-    text: &[u8],
-    diagnostic: &Diagnostic,
-) -> Result<(), AllocError>
+#[tactic(auto, unfolding(crate::specs::Heads::finding_text))]
+fn put_finding(out: &mut Vec<u8>, text: &[u8], diagnostic: &Diagnostic) -> Result<(), AllocError>
     requires { length text.now < 2 ^ 32 }
     ensures { OnOk result (out.new.items ≡ out.old.items ++ finding_text text.now diagnostic.now) }
 {
@@ -82,6 +79,7 @@ fn put_finding(
 }
 
 /// Puts the first line of a finding.
+#[tactic(auto, unfolding(crate::specs::Heads::head_text))]
 pub fn put_head(
     out: &mut Vec<u8>,
     name: &[u8],
@@ -96,5 +94,6 @@ pub fn put_head(
 {
     put_name(out, name, text, diagnostic.file)?;
     put_place(out, diagnostic.line, column)?;
-    put_finding(out, text, diagnostic)
+    put_finding(out, text, diagnostic)?;
+    Ok(())
 }

@@ -10,4 +10,4 @@ mod extent;
 mod head;
 mod report;
 
-pub use report::{ReportFault, report};
+pub use report::{ReportFault, write_report};

@@ -143,6 +143,7 @@ fn say_sum<W: Write>(
 }
 
 /// Says the report of a session's text.
+#[tactic(auto, unfolding(crate::specs::Reports::report_of))]
 fn say_report<W: Write>(
     page: &mut Page,
     out: &mut Watched<W>,
@@ -156,11 +157,12 @@ fn say_report<W: Write>(
     ensures failed { failed_of out.new ≡ (failed_of out.old || is_unwritten result) }
 {
     say_blocks(page, out, room, name, session.text(), session.diagnostics())?;
-    say_sum(page, out, room, name, session.errors(), session.warnings())
+    say_sum(page, out, room, name, session.errors(), session.warnings())?;
+    Ok(())
 }
 
 /// Writes the report of a session's text, by the name that it is to have.
-pub fn report<W: Write>(
+pub fn write_report<W: Write>(
     alloc: Global,
     out: &mut Watched<W>,
     name: &[u8],

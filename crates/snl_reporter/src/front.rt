@@ -20,7 +20,11 @@ pub enum Front {
     /// No heading, whatever follows.
     Malformed,
     /// A heading line of so many bytes with its LF, a name and a text.
-    Whole { line: usize, name: usize, text: usize },
+    Whole {
+        line: usize,
+        name: usize,
+        text: usize,
+    },
 }
 
 fn front_after(heading: Option<Heading>, line: usize, length: usize) -> Front

@@ -10,7 +10,7 @@ mod heading;
 mod run;
 
 use faults::{Fault, Status, status_code};
-use run::run;
+use run::report_all;
 use snl_script::Watched;
 use std::env;
 use std::io::ErrorKind;
@@ -42,7 +42,7 @@ fn serve(rt: &HostRuntime) -> Result<Status, Fault> {
     read_words(rt)?;
     let mut input = Watched::new(rt.stdin());
     let mut out = Watched::new(rt.stdout());
-    run(rt.alloc(), &mut input, &mut out)
+    report_all(rt.alloc(), &mut input, &mut out)
 }
 
 fn main(rt: HostRuntime) -> ExitCode {

@@ -2,10 +2,9 @@
 //! In: a reader that gives texts, each after its heading. Out: their reports, each written before
 //! more is read.
 
-
 use crate::faults::{Fault, Status, worse};
 use crate::front::{Front, front_of};
-use snl_report::report;
+use snl_report::write_report;
 use snl_script::{Ahead, Watched};
 use snl_session::Session;
 use std::alloc::Global;
@@ -25,21 +24,19 @@ fn answer<W: Write>(
     out: &mut Watched<W>,
     name: &[u8],
     text: &[u8],
-) -> Result<Status, Fault>
-{
+) -> Result<Status, Fault> {
     let source = Vec::from_slice(alloc, text).map_err(|_| Fault::Memory)?;
     let (session, _) = Session::over(alloc, source).map_err(|_| Fault::Memory)?;
-    report(alloc, out, name, &session)?;
+    write_report(alloc, out, name, &session)?;
     Ok(status(&session))
 }
 
 /// Reads texts, and writes their reports.
-pub fn run<R: Read, W: Write>(
+pub fn report_all<R: Read, W: Write>(
     alloc: Global,
     input: &mut Watched<R>,
     out: &mut Watched<W>,
-) -> Result<Status, Fault>
-{
+) -> Result<Status, Fault> {
     let mut ahead = Ahead::new(alloc);
     let mut worst = Status::Clean;
     let mut number: u64 = 1;
