@@ -21,7 +21,7 @@ completions = $(top)/share/bash-completion/completions
 # The program is taken from the release or built again, where that is to be done, by the check of a
 # text without errors.
 all:
-	@echo 'program p ss a { state i { when () { } state i } }' | SNL_CLI='$(SNL_CLI)' ./check --quiet -
+	@echo 'program p ss a { state i { when () { } state i } }' | SNL_CLI='$(SNL_CLI)' ./check --plain --quiet -
 
 # Of a program for reports or a server that is named and not there nothing is installed.
 install: all
