@@ -1,9 +1,15 @@
 -- What is at the front of bytes that give texts.
-use Rattle.std.specs.Prelude.{ℕ, ◌+◌, ◌==◌, List, length, take, Option, Some, None, nat_le, position, if◌then◌else◌}
+use Rattle.std.specs.Prelude.{ℕ, ◌+◌, ◌==◌, ◌≤◌, ⊤, List, length, take, Option, Some, None, nat_le, position, if◌then◌else◌}
 use Rattle.snl_reporter.specs.declared.front.Front.{Front}
 use Rattle.snl_reporter.specs.declared.front.Front.TheVariants.{Short, Malformed, Whole}
 use Rattle.snl_reporter.specs.declared.heading.Heading.{Heading}
 use Rattle.snl_reporter.specs.Headings.{heading_of}
+
+-- A text that is whole lies within so many bytes, and has no more than it may have.
+abbrev pub IsInside : (len : ℕ) → Front → Type 0
+IsInside len (Whole line name text) = (1 ≤ line) × (line + name + text ≤ len) × (name ≤ 4096) × (text ≤ 1048576)
+IsInside len Short = ⊤
+IsInside len Malformed = ⊤
 
 -- By the heading, the length of its line with the LF, and how many bytes there are.
 abbrev pub front_after : Option Heading → (line len : ℕ) → Front

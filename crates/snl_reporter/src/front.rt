@@ -5,9 +5,9 @@
 ghost use Rattle.std.specs.Prelude.{◌≡◌, ◌+◌, ◌==◌, ◌≤◌, ◌<◌, length, take, position};
 ghost use Rattle.std.specs.Option.{ForSome};
 ghost use Rattle.snl_reporter.specs.Headings.{IsSmall};
-ghost use Rattle.snl_reporter.specs.Fronts.{front_after, front_of};
+ghost use Rattle.snl_reporter.specs.Fronts.{IsInside, front_after, front_of};
 
-use crate::heading::{Heading, heading_in};
+use crate::heading::{Heading, heading_in, place_of};
 
 /// A heading line has at most so many bytes without its LF.
 const MAX_LINE: usize = 80;
@@ -29,8 +29,10 @@ pub enum Front {
 
 fn front_after(heading: Option<Heading>, line: usize, length: usize) -> Front
     requires line { line ≤ 81 }
+    requires some { 1 ≤ line }
     requires few { ForSome heading IsSmall }
-    ensures { result ≡ front_after heading line length }
+    ensures front { result ≡ front_after heading line length }
+    ensures inside { IsInside length result }
 {
     match heading {
         None => Front::Malformed,
@@ -48,12 +50,22 @@ fn front_after(heading: Option<Heading>, line: usize, length: usize) -> Front
     }
 }
 
+/// The first bytes, at most so many.
+#[tactic(auto, using(std::proofs::lemmas::List::take_min))]
+fn first_of(bytes: &[u8], most: usize) -> &[u8]
+    ensures value { result.now ≡ take most bytes.now }
+    ensures few { length result.now ≤ most }
+    ensures inside { length result.now ≤ length bytes.now }
+{
+    &bytes[..bytes.len().min(most)]
+}
+
 /// What is at the front of these bytes.
 pub fn front_of(bytes: &[u8]) -> Front
-    ensures { result ≡ front_of bytes.now }
+    ensures front { result ≡ front_of bytes.now }
+    ensures inside { IsInside (length bytes.now) result }
 {
-    let first = &bytes[..bytes.len().min(MAX_LINE + 1)];
-    match first.iter().position(|byte| *byte == b'\n') {
+    match place_of(b'\n', first_of(bytes, MAX_LINE + 1)) {
         Some(end) => front_after(heading_in(&bytes[..end]), end + 1, bytes.len()),
         None if bytes.len() > MAX_LINE => Front::Malformed,
         None => Front::Short,

@@ -24,6 +24,14 @@ pub struct Heading {
     pub text: usize,
 }
 
+/// Where the first such byte is.
+pub fn place_of(byte: u8, bytes: &[u8]) -> Option<usize>
+    ensures place { result ≡ position (λ b. b == byte) bytes.now }
+    ensures inside { IfSome result (λ place. place < length bytes.now) }
+{
+    bytes.iter().position(|b| *b == byte)
+}
+
 fn number_in(word: &[u8]) -> Option<usize>
     ensures { result ≡ number_of word.now }
 {
@@ -56,7 +64,7 @@ fn lengths_in(words: &[u8]) -> Option<Heading>
     ensures heading { result ≡ lengths_of words.now }
     ensures few { IfSome result IsSmall }
 {
-    match words.iter().position(|byte| *byte == b' ') {
+    match place_of(b' ', words) {
         None => None,
         Some(end) => heading_with(number_in(&words[..end]), number_in(&words[end + 1..])),
     }
