@@ -18,6 +18,7 @@ from protocol import bodies, did_open, frame, initialize, note, request, run
 TAB = 8
 BEFORE, AFTER = 80, 120
 MOST = 1000
+CLOSING = {b"/*": b"*/", b"%{": b"}%"}
 FINDING = re.compile(rb"(?:(.*):)?(\d+): ([EW]\d\d) ([^:]*)", re.S)
 MARKED = re.compile(rb'^[ \t]*#[^"\n]*"((?:[^"\\\n]|\\.)*)"', re.M)
 HIDDEN = (
@@ -142,8 +143,9 @@ def block(name, text, finding, place):
     """What is told of a finding: three lines."""
     file, line, code, message = finding
     start, stop, _ = place
-    if stop > start and text[start : start + 2] in (b"/*", b"%{"):
-        # A token that begins so is a comment or C code that nothing ends.
+    closing = CLOSING.get(text[start : start + 2])
+    if stop > start and closing and text.find(closing, start + 2) < 0:
+        # A comment or C code that nothing ends.
         stop = start + 2
     where = name if file is None else file_shown(file, text)
     column = start - text.rfind(b"\n", 0, start)
