@@ -1,10 +1,18 @@
 # Passes a report on, and counts by the last line of each text, NAME: errors E warnings W. All other
 # lines come by three: what is found, the line where that is, and the marks under it. Before these
-# come the numbers of the sources that are reported on, and after them the program's status.
+# come the numbers of the sources that are reported on, and after them what the program said of a
+# fault, and its status.
 
 function begin_form() { return }
 
+# A report that broke off may have ended within a line.
+index($0, "\001") > 1 {
+    at = index($0, "\001")
+    print substr($0, 1, at - 1)
+    $0 = substr($0, at)
+}
 /^\001send / { sent[++sends] = $2; if (sends == 1) begin_source($2); next }
+/^\001fault / { say(substr($0, 8)); next }
 /^\001end / { end_report($2); next }
 lines_left { lines_left--; print; next }
 match($0, /: errors [0-9]+ warnings [0-9]+$/) { take_sum(substr($0, RSTART + 2)); next }

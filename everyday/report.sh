@@ -5,20 +5,31 @@
 small=65536
 
 report_all() {
-    local number sent=() bodies=() sizes=() chosen=${GLIBC_TUNABLES-$tunables} input
+    local number sent=() bodies=() sizes=()
     for number in "${!names[@]}"; do
         [ "${texts[number]}" = "${files[number]}" ] || make_text "$number" || continue
         take_text "$number" && sent+=("$number") && mark send $((number + 1))
     done
-    [ "${#sent[@]}" -gt 0 ] || return 0
-    exec {input}> >(GLIBC_TUNABLES=$chosen exec "$program" "${arguments[@]}")
+    [ "${#sent[@]}" = 0 ] || run_program
+}
+
+# Has the program report on what is sent to it. What it says of a fault is told among the reports,
+# so not where nobody reads these any more.
+run_program() {
+    local chosen=${GLIBC_TUNABLES-$tunables} input faults line status
+    exec {faults}<> <(:)
+    exec {input}> >(GLIBC_TUNABLES=$chosen exec "$program" "${arguments[@]}" 2>&"$faults")
     # The program may end before it has read all.
     trap '' PIPE
     send >&"$input"
     trap 'exit 2' PIPE
     exec {input}>&-
     wait $!
-    mark end $?
+    status=$?
+    while read -t 0 -u "$faults" && IFS= read -r -t 1 -u "$faults" line; do
+        mark fault "$line"
+    done
+    mark end "$status"
 }
 
 # Takes in a text, by its number: a small one as it is, and another one in a copy, which stays as it

@@ -3,8 +3,8 @@
 # comes now, with which status the program ended, or why a source is not checked. What reads the
 # answers (findings.awk, report.awk) calls begin_source and end_source, and has begin_form and
 # end_form.
-# Settings: command, before (cpp, lines or nothing), quiet, strict, limit, and missed: how many sources
-# were not there to be checked.
+# Settings: command, before (cpp, lines or nothing), quiet, strict, limit, and missed: how many
+# sources were not there to be checked.
 
 BEGIN {
     sources = (ARGC - 1) / 2

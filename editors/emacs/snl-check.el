@@ -21,7 +21,7 @@
 ;; Error or warning is told by the group that is there.
 (add-to-list 'compilation-error-regexp-alist-alist
              '(snl-check
-               "^\\(.+?\\):\\([0-9]+\\):\\(?:\\([0-9]+\\):\\)? \\(?:E\\|\\(W\\)\\)[0-9][0-9] [^:\n]*$"
+               "^\\(.+?\\):\\([0-9]+\\):\\(?:\\([0-9]+\\):\\)? \\(?:E\\|\\(W\\)\\)[0-9]\\{2\\} [^:\n]*$"
                1 2 3 (4)))
 (add-to-list 'compilation-error-regexp-alist 'snl-check)
 
