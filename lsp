@@ -5,10 +5,9 @@
 # ./lsp --build proves and builds the server of a clone.
 set -u
 
-# What lines on standard error begin with, the crate of the program, and the words that it gets.
+# What lines on standard error begin with, and the crate of the program.
 self=lsp
 target=snl_lsp
-arguments=()
 
 # Says something in a line of its own, also where a terminal's line tells how far the build is.
 say() {
@@ -35,17 +34,6 @@ tell_version() {
     read -r version < "$parts/version"
     sum=$(sha256sum < "$program")
     echo "snl-lsp $version, with the program ${sum:0:12}"
-}
-
-frame() {
-    printf 'Content-Length: %d\r\n\r\n%s' "${#1}" "$1"
-}
-
-# A talk at whose end the server has status 0: what builds or unpacks it runs it once.
-trial() {
-    frame '{"id":1,"method":"initialize"}'
-    frame '{"id":2,"method":"shutdown"}'
-    frame '{"method":"exit"}'
 }
 
 here=${BASH_SOURCE[0]}

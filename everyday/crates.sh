@@ -1,6 +1,8 @@
 # Proves the crates that a program is built on, and builds it. Crates that do not wait for each
 # other are proved side by side. What is proved is kept in crates/*/out. build.sh reads this.
 
+. "$parts/trial.sh"
+
 # How long the first build takes, from a fresh clone.
 build_time=${build_time:-"an hour by the clock on four processors"}
 
