@@ -36,6 +36,12 @@ expect() {
     fi
 }
 
+# Runs a command on a terminal; its lines end with LF here.
+terminal() {
+    script -qec "$(printf '%q ' "$@")" /dev/null < /dev/null | tr -d '\r'
+    return "${PIPESTATUS[0]}"
+}
+
 # Whether a program is there; what cannot be tried without it is told.
 have() {
     command -v "$1" > /dev/null && return

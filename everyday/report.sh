@@ -1,0 +1,77 @@
+# Has one process report on all texts. ./check reads this where a report is asked for. What the
+# program reads is for each text a line with the lengths of name and text, the name, and the text.
+
+# A text of at most so many bytes is read by the shell, which starts no process for it.
+small=65536
+
+report_all() {
+    local number sent=() bodies=() sizes=()
+    for number in "${!names[@]}"; do
+        [ "${texts[number]}" = "${files[number]}" ] || make_text "$number" || continue
+        take_text "$number" && sent+=("$number") && mark send $((number + 1))
+    done
+    [ "${#sent[@]}" = 0 ] || run_program
+}
+
+# Has the program report on what is sent to it. What it says of a fault is told among the reports,
+# so not where nobody reads these any more.
+run_program() {
+    local chosen=${GLIBC_TUNABLES-$tunables} input faults line status
+    exec {faults}<> <(:)
+    exec {input}> >(GLIBC_TUNABLES=$chosen exec "$program" "${arguments[@]}" 2>&"$faults")
+    # The program may end before it has read all.
+    trap '' PIPE
+    send >&"$input"
+    trap 'exit 2' PIPE
+    exec {input}>&-
+    wait $!
+    status=$?
+    while read -t 0 -u "$faults" && IFS= read -r -t 1 -u "$faults" line; do
+        mark fault "$line"
+    done
+    mark end "$status"
+}
+
+# Takes in a text, by its number: a small one as it is, and another one in a copy, which stays as it
+# is while it is sent. A byte 0 is nothing that the shell can hold.
+take_text() {
+    local LC_ALL=C text body=''
+    { exec {text}< "${texts[$1]}"; } 2> /dev/null \
+        || { unable "${names[$1]} cannot be read" && return 1; }
+    if IFS= read -r -d '' -n $((small + 1)) -u "$text" body; then
+        exec {text}<&-
+        copy_text "$1"
+    else
+        exec {text}<&-
+        bodies[$1]=$body sizes[$1]=${#body}
+    fi
+}
+
+# Takes in a copy of a text, if that has not too many bytes.
+copy_text() {
+    local copied=${texts[$1]}
+    [ -n "${room-}" ] || . "$parts/texts.sh"
+    if [[ $copied != "$room"/* ]]; then
+        copied=$room/copy$1
+        copy "${texts[$1]}" $((limit + 1)) > "$copied" \
+            || { unable "${names[$1]} cannot be read" && return 1; }
+    fi
+    texts[$1]=$copied
+    sizes[$1]=$(stat -c %s "$copied")
+    [ "${sizes[$1]}" -le "$limit" ] && return
+    unable "${names[$1]} is over $limit bytes${before:+ after the preprocessor}"
+    return 1
+}
+
+# Writes all that the program reads.
+send() {
+    local LC_ALL=C number
+    for number in "${sent[@]}"; do
+        printf 'text %d %d\n%s' "${#names[number]}" "${sizes[number]}" "${names[number]}"
+        if [ -n "${bodies[number]+small}" ]; then
+            printf %s "${bodies[number]}"
+        else
+            cat "${texts[number]}"
+        fi || return
+    done
+} 2> /dev/null
