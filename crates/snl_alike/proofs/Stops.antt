@@ -31,6 +31,7 @@ moved_split before base made (r ∷ rs) (suc count) place le split =
     ap (λ (b : Bool). cond b
     (moved_by before r.stop (new_stop base made (edit_of r)) (edits_of rs) place)
     (made + (place - base))) (split.0 0 r (omega arith) (omega arith))
-    ∙ moved_split before r.stop (new_stop base made (edit_of r)) rs count place (omega (arith, le))
-    ((λ k d low high. split.0 (suc k) d (omega arith) (omega (arith, high))),
-    (λ k d low high. split.1 (suc k) d (omega (arith, low)) (omega (arith, high))))
+    ∙ moved_split before r.stop (new_stop base made (edit_of r)) rs count place (omega (arith, le)) (
+      (λ k d low high. split.0 (suc k) d (omega arith) (omega (arith, high))),
+      (λ k d low high. split.1 (suc k) d (omega (arith, low)) (omega (arith, high))),
+    )

@@ -13,5 +13,4 @@ mod tables;
 pub use edited_text::{EditedText, edited};
 pub use moves::Moves;
 pub use replacement::{Replacement, rise};
-
 pub use tables::{TablePart, changed_part};

@@ -25,11 +25,7 @@ impl<'a> Moves<'a> {
     ghost use Rattle.snl_alike.specs.Moved.{edits_in, moved_span};
 
     /// Replacements that follow one another in the old text, and what is made of it.
-    pub fn of(
-        _old: &[u8],
-        replacements: &'a [Replacement<'a>],
-        edited: &'a EditedText,
-    ) -> Moves<'a>
+    pub fn of(_old: &[u8], replacements: &'a [Replacement<'a>], edited: &'a EditedText) -> Moves<'a>
         requires rise { Rise 0 (length _old.now) (edits_of replacements.now) }
         requires stops { edited.now.stops.items ≡ new_stops 0 0 (edits_of replacements.now) }
         ensures { edits_in result ≡ edits_of replacements.now }

@@ -9,5 +9,5 @@ invariant-loop-replacement l =
     record {
       rise : Rise l.base (length l.old) rest;
       text : l.text.items ++ edited_from l.old l.base rest ≡ with_edits l.old (edits_of l.replacements);
-      stops : l.stops.items ++ new_stops l.base (vec_len l.text) rest ≡ new_stops 0 0 (edits_of l.replacements)
+      stops : l.stops.items ++ new_stops l.base (vec_len l.text) rest ≡ new_stops 0 0 (edits_of l.replacements);
     }

@@ -16,7 +16,9 @@ returns-else-count-eq0 c =
     let inside : c.args.count - 1 < length m.replacements.now =
     omega (arith, c.requires, c.if-count-eq0.false) in
     let whole : suc (c.args.count - 1) ≡ c.args.count = omega (arith, c.if-count-eq0.false) in
-    ap (λ (l : List ℕ). ((slice_index_or m.replacements.now (c.args.count - 1) _).stop,
-    slice_index_or l (c.args.count - 1) 0)) m.stops_are
+    ap (λ (l : List ℕ). (
+      (slice_index_or m.replacements.now (c.args.count - 1) _).stop,
+      slice_index_or l (c.args.count - 1) 0,
+    )) m.stops_are
     ∙ sym (last_at 0 0 m.replacements.now (c.args.count - 1) _ 0 inside)
     ∙ ap (last_stops 0 0 (edits_of m.replacements.now)) whole

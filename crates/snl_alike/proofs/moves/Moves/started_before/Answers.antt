@@ -6,6 +6,6 @@ use Rattle.snl_alike.proofs.moves.Moves.started_before.Goals as goal
 pub returns-clause-split : goal.returns-clause-split
 returns-clause-split c =
     let parted = IsPartitionedBy-ltb (λ (r : Replacement). r.start) _ c.args.place
-        c.args.self.now.starts_rise in
+    c.args.self.now.starts_rise in
     IsPartitionPoint-from_clause (λ (r : Replacement). ltb r.start c.args.place) _ _
     c.partition_point.ensures.partitioned parted (λ a r q k. search rules)
