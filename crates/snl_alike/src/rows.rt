@@ -7,7 +7,7 @@ ghost use Rattle.snl_alike.specs.Moved.{edits_in, moved_file};
 use crate::moves::Moves;
 use crate::moving::{Moving, Plain, all_become, are_same, becomes_if};
 use snl_facts::are_same_bytes;
-use snl_lex::Line;
+use snl_lex::{Class, Line};
 use snl_tables::{
     ChannelRow, Destination, FlagRow, NamedState, OptionRow, Rows, ScopeName, SetRow, Span,
     StateRow, WakeUp,
@@ -16,6 +16,12 @@ use sqlite_items::Items;
 
 impl Plain for usize {
     fn is_same(&self, other: &usize) -> bool {
+        *self == *other
+    }
+}
+
+impl Plain for Class {
+    fn is_same(&self, other: &Class) -> bool {
         *self == *other
     }
 }
