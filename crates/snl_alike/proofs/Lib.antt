@@ -1,3 +1,4 @@
 pub mod Rising
 pub mod Steps
 pub mod Stops
+pub mod Undone

@@ -6,6 +6,7 @@
 mod differences;
 mod edited_text;
 mod findings;
+mod laws;
 mod mentions;
 mod moves;
 mod moving;
@@ -16,6 +17,7 @@ mod tables;
 pub use differences::{Difference, changed_answers, first_difference};
 pub use edited_text::{EditedText, edited};
 pub use findings::FindingChange;
+pub use laws::edits_are_undone;
 pub use moves::Moves;
 pub use replacement::{Replacement, rise};
 pub use tables::{TablePart, changed_part};
