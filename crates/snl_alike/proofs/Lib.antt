@@ -1,4 +1,6 @@
+pub mod Later
 pub mod Rising
 pub mod Steps
 pub mod Stops
+pub mod Tokens
 pub mod Undone

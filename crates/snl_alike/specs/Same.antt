@@ -1,11 +1,12 @@
 -- A text says after edits what it said.
 use Rattle.std.specs.Prelude.{◌≡◌, ℕ, List, length, map, option_map}
-use Rattle.snl_lex.specs.PieceList.{piece_kinds}
+use Rattle.snl_lex.specs.PieceList.{piece_ends, piece_kinds}
+use Rattle.snl_items.specs.Items.{item_ends}
 use Rattle.snl_kept.specs.declared.found.findings.Diagnostic.{Diagnostic}
 use Rattle.snl_kept.specs.Diagnostics.{diagnostics_of}
 use Rattle.snl_kept.specs.Tables.{tables_in}
 use Rattle.snl_questions.specs.Mentions.{mentions_in}
-use Rattle.snl_alike.specs.Edits.{Edit, Rise, moved_start, with_edits}
+use Rattle.snl_alike.specs.Edits.{Edit, Rise, moved_start, moved_stop, with_edits}
 use Rattle.snl_alike.specs.Moved.{moved_file, moved_len, moved_tables}
 
 -- A finding keeps its line and its code.
@@ -24,10 +25,12 @@ pub record SameBut (text : List ℕ) (es : List Edit) (new : List ℕ) : Type 0 
   pub found : diagnostics_of new ≡ map (moved_diagnostic es) (diagnostics_of text)
   pub tables : tables_in new ≡ moved_tables es (tables_in text)
 
--- Besides, as many pieces of the same classes are in both, and each token means what it meant: an
--- item's token is told by numbers, so no place of the text is in this.
+-- The pieces are those of the text, each at its place, and the items are cut alike. Each token means
+-- what it meant: it is told by its item and its number there, so no place of the text is in this.
 pub record AreAlike (text : List ℕ) (es : List Edit) (new : List ℕ) : Type 0 where
-  pub pieces : piece_kinds new ≡ piece_kinds text
+  pub kinds : piece_kinds new ≡ piece_kinds text
+  pub ends : piece_ends new ≡ map (moved_stop es) (piece_ends text)
+  pub items : item_ends new ≡ item_ends text
   pub meanings : mentions_in new ≡ mentions_in text
   pub same : SameBut text es new
 

@@ -2,10 +2,10 @@
 //! replacements. Out: the first thing that differs, if one does. The new text is compiled on the
 //! side, and nothing that is kept is changed.
 
-ghost use Rattle.std.specs.Prelude.{◌≡◌, ℕ, IfNone, IfOk, IsTrue, List};
+ghost use Rattle.std.specs.Prelude.{◌≡◌, ℕ, IfNone, IfOk, IsTrue, List, map};
 ghost use Rattle.snl_kept.specs.Kept.{IsKept, IsListed};
 ghost use Rattle.snl_questions.specs.Mentions.{mentions_in};
-ghost use Rattle.snl_alike.specs.Edits.{edits_of};
+ghost use Rattle.snl_alike.specs.Edits.{edits_of, moved_stop};
 ghost use Rattle.snl_alike.specs.Moved.{edits_in};
 ghost use Rattle.snl_alike.specs.Same.{AreAlike, SameBut, SaysTheSame};
 
@@ -13,7 +13,7 @@ use crate::edited_text::edited;
 use crate::findings::{FindingChange, findings_become, first_finding_change};
 use crate::mentions::{first_changed, same_mentions};
 use crate::moves::Moves;
-use crate::moving::are_same;
+use crate::moving::{all_become, are_same};
 use crate::replacement::{Replacement, rise};
 use crate::tables::{TablePart, changed_part};
 use snl_cut::OutOfMemory;
@@ -41,10 +41,16 @@ pub enum Difference {
     Table(TablePart),
 }
 
-fn same_pieces(old: &Lists, new: &Lists) -> bool
-    ensures { IsTrue result → new.now.pieces.kinds.items ≡ old.now.pieces.kinds.items }
+// Whether the pieces are the same, but for their places, and the items are cut alike.
+fn same_pieces(old: &Lists, moves: &Moves<'_>, new: &Lists) -> bool
+    ensures kinds { IsTrue result → new.now.pieces.kinds.items ≡ old.now.pieces.kinds.items }
+    ensures ends { IsTrue result → new.now.pieces.ends.items
+        ≡ map (moved_stop (edits_in moves.now)) old.now.pieces.ends.items }
+    ensures items { IsTrue result → new.now.items.ends.items ≡ old.now.items.ends.items }
 {
     are_same(&old.pieces.kinds, &new.pieces.kinds)
+        && all_become(&old.pieces.ends, moves, &new.pieces.ends)
+        && are_same(&old.items.ends, &new.items.ends)
 }
 
 // Whether both texts mention the same, with the first place where they don't.
@@ -96,7 +102,7 @@ fn compared(
     requires new { IsKept new.now new_kept.now }
     ensures { IfOk result (λ d. IfNone d (AreAlike old.now (edits_in moves.now) new.now)) }
 {
-    if !same_pieces(&old_kept.lists, &new_kept.lists) {
+    if !same_pieces(&old_kept.lists, moves, &new_kept.lists) {
         return Ok(Some(Difference::Pieces));
     }
     if let Some(meaning) = changed_meaning(alloc, old, &old_kept.lists, new, &new_kept.lists)? {

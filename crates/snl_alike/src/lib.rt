@@ -17,7 +17,7 @@ mod tables;
 pub use differences::{Difference, changed_answers, first_difference};
 pub use edited_text::{EditedText, edited};
 pub use findings::FindingChange;
-pub use laws::edits_are_undone;
+pub use laws::{edits_are_undone, places_keep_their_order, tokens_move, undone_edits_move};
 pub use moves::Moves;
 pub use replacement::{Replacement, rise};
 pub use tables::{TablePart, changed_part};

@@ -1,6 +1,7 @@
 //! The rows of tables, which become others by replacements in their text.
 
 ghost use Rattle.std.specs.Prelude.{◌≡◌, IsTrue, map, option_map};
+ghost use Rattle.snl_alike.specs.Edits.{moved_stop};
 ghost use Rattle.snl_alike.specs.Moved as rows;
 ghost use Rattle.snl_alike.specs.Moved.{edits_in, moved_file};
 
@@ -17,6 +18,21 @@ use sqlite_items::Items;
 impl Plain for usize {
     fn is_same(&self, other: &usize) -> bool {
         *self == *other
+    }
+}
+
+impl Plain for u32 {
+    fn is_same(&self, other: &u32) -> bool {
+        *self == *other
+    }
+}
+
+// A place where something ends.
+impl Moving for u32 {
+    ghost moved = { moved_stop };
+
+    fn becomes(&self, moves: &Moves<'_>, new: &u32) -> bool {
+        moves.stops(*self as usize, *new as usize)
     }
 }
 

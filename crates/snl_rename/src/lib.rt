@@ -5,6 +5,7 @@
 
 mod faulty;
 mod foreign;
+mod laws;
 mod names;
 mod objections;
 mod places;
@@ -14,6 +15,7 @@ mod renaming;
 mod unread;
 mod words;
 
+pub use laws::renamed_there_and_back;
 pub use names::is_free_name;
 pub use refusal::Refusal;
 pub use renaming::{Renaming, rename};
