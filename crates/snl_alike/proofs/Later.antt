@@ -68,32 +68,38 @@ undone_moves text end es rise some =
 
 grows : (base made end : ℕ) (es : List Edit) (place : ℕ) → made ≤ stop_from base made es place
 grows base made end [] place = omega arith
-grows base made end (e ∷ es) place = by (nat_lt e.start place)
+grows base made end (e ∷ es) place =
+    by (nat_lt e.start place) (grows e.stop (new_stop base made e) end es place)
   where
-    by : (b : Bool) → made ≤ cond b (stop_from e.stop (new_stop base made e) es place)
-        (made + (place - base))
-    by true = omega (arith, grows e.stop (new_stop base made e) end es place)
-    by false = omega arith
+    by : (b : Bool) →
+        new_stop base made e ≤ stop_from e.stop (new_stop base made e) es place →
+        made ≤ cond b (stop_from e.stop (new_stop base made e) es place) (made + (place - base))
+    by true more = omega (arith, more)
+    by false more = omega arith
 
 later : (base made end : ℕ) (es : List Edit) (one other : ℕ) → Rise base end es → one ≤ other →
     stop_from base made es one ≤ stop_from base made es other
 later base made end [] one other rise le = omega (arith, le)
 later base made end (e ∷ es) one other rise le =
     by (nat_lt e.start one) (nat_lt e.start other) refl refl
+    (later e.stop (new_stop base made e) end es one other rise.2 le)
+    (grows e.stop (new_stop base made e) end es other)
   where
     by : (b c : Bool) → nat_lt e.start one ≡ b → nat_lt e.start other ≡ c →
+        stop_from e.stop (new_stop base made e) es one ≤
+        stop_from e.stop (new_stop base made e) es other →
+        new_stop base made e ≤ stop_from e.stop (new_stop base made e) es other →
         cond b (stop_from e.stop (new_stop base made e) es one) (made + (one - base)) ≤
         cond c (stop_from e.stop (new_stop base made e) es other) (made + (other - base))
-    by true true h k = later e.stop (new_stop base made e) end es one other rise.2 le
-    by true false h k = absurd (crossed h k)
+    by true true h k more grown = more
+    by true false h k more grown = absurd (crossed h k)
       where
         crossed : nat_lt e.start one ≡ true → nat_lt e.start other ≡ false → ⊥
         crossed h k = grind (arith, nat_tests, le)
-    by false true h k =
+    by false true h k more grown =
         let low : one ≤ e.start = grind (arith, nat_tests, h) in
-        let grown = grows e.stop (new_stop base made e) end es other in
         omega (arith, low, grown, rise.0)
-    by false false h k = omega (arith, le)
+    by false false h k more grown = omega (arith, le)
 
 pub moved_later : (end : ℕ) (es : List Edit) (one other : ℕ) → Rise 0 end es → one ≤ other →
     moved_stop es one ≤ moved_stop es other

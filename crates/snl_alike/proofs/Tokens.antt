@@ -39,13 +39,14 @@ pieces_moved text f from (e ∷ ends) (k ∷ kinds) some =
 tokens_moved : (f : ℕ → ℕ) (ps : List Piece) →
     filter is_token (map (moved f) ps) ≡ map (moved f) (filter is_token ps)
 tokens_moved f [] = refl
-tokens_moved f (p ∷ ps) = step (is_token p)
+tokens_moved f (p ∷ ps) = step (is_token p) (tokens_moved f ps)
   where
     step : (t : Bool) →
+        filter is_token (map (moved f) ps) ≡ map (moved f) (filter is_token ps) →
         cond t (moved f p ∷ filter is_token (map (moved f) ps)) (filter is_token (map (moved f) ps))
         ≡ map (moved f) (cond t (p ∷ filter is_token ps) (filter is_token ps))
-    step true = ap (λ (l : List Piece). moved f p ∷ l) (tokens_moved f ps)
-    step false = tokens_moved f ps
+    step true rest = ap (λ (l : List Piece). moved f p ∷ l) rest
+    step false rest = rest
 
 members_moved : {X Y : Type 0} (g : X → Y) (xs : List X) (from : ℕ) (ends : List ℕ) →
     members (map g xs) from ends ≡ map (map g) (members xs from ends)
