@@ -40,8 +40,11 @@ moved_zero (e ∷ es) = short_of 0 0 e es 0 (omega arith)
 undone_each : (text : List ℕ) (base made end : ℕ) (es : List Edit) (f : ℕ → ℕ) →
     Rise base end es → Each HasOldBytes es →
     ((place : ℕ) → base ≤ place → f place ≡ stop_from base made es place) →
-    undone_from text base made es ≡ map (λ e. record { start = f e.start; stop = f e.stop;
-    new = take (e.stop - e.start) (drop e.start text) }) es
+    undone_from text base made es ≡ map (λ e. record {
+      start = f e.start;
+      stop = f e.stop;
+      new = take (e.stop - e.start) (drop e.start text);
+    }) es
 undone_each text base made end [] f rise some is = refl
 undone_each text base made end (e ∷ es) f rise some is =
     let stop = new_stop base made e in
@@ -50,8 +53,11 @@ undone_each text base made end (e ∷ es) f rise some is =
     let stop_is : f e.stop ≡ stop =
     is e.stop (omega (arith, rise.0, rise.1)) ∙ past base made e es e.stop some.0
     ∙ at_base e.stop stop end es rise.2 in
-    let edit : ℕ → ℕ → Edit = λ n m. record { start = n; stop = m;
-    new = take (e.stop - e.start) (drop e.start text) } in
+    let edit : ℕ → ℕ → Edit = λ n m. record {
+      start = n;
+      stop = m;
+      new = take (e.stop - e.start) (drop e.start text);
+    } in
     ap₂ (λ (x : Edit) (xs : List Edit). x ∷ xs)
     (ap₂ (λ (n m : ℕ). edit n m) (sym start_is) (sym stop_is))
     (undone_each text e.stop stop end es f rise.2 some.1

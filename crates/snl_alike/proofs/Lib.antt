@@ -1,3 +1,4 @@
+pub mod Alike
 pub mod Later
 pub mod Rising
 pub mod Steps

@@ -70,10 +70,7 @@ fn changed_meaning(
     if same_mentions(&old_mentions, &new_mentions) {
         return Ok(None);
     }
-    Ok(Some(Difference::Meaning(first_changed(
-        &old_mentions,
-        &new_mentions,
-    ))))
+    Ok(Some(Difference::Meaning(first_changed(&old_mentions, &new_mentions))))
 }
 
 /// The first finding or row that differs, if one does.

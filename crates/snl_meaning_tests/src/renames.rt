@@ -105,7 +105,7 @@ static CAPTURED: [Row; 9] = [
     (
         b"program p\nss s { state a { when () { } state @b }\nstate b { when () { } state c }\nstate c { when () { } exit } }\n",
         b"c",
-        b"line 4: 'c' would mean another declaration",
+        b"line 3: 'c' would mean another declaration",
     ),
 ];
 
@@ -193,11 +193,7 @@ fn text_of(alloc: Global, template: &[u8], place: usize) -> Result<Vec<u8>, Fail
     Ok(text)
 }
 
-fn with_edits(
-    alloc: Global,
-    text: &[u8],
-    edits: &[Replacement<'_>],
-) -> Result<Vec<u8>, Fail> {
+fn with_edits(alloc: Global, text: &[u8], edits: &[Replacement<'_>]) -> Result<Vec<u8>, Fail> {
     let mut new = Vec::new(alloc);
     let mut base = 0;
     for edit in edits {
@@ -210,12 +206,7 @@ fn with_edits(
 }
 
 // The text after a rename, or why there is none.
-fn answered(
-    alloc: Global,
-    session: &Session,
-    offset: usize,
-    name: &[u8],
-) -> Result<Vec<u8>, Fail> {
+fn answered(alloc: Global, session: &Session, offset: usize, name: &[u8]) -> Result<Vec<u8>, Fail> {
     match rename(alloc, session.text(), session.kept(), offset, name)? {
         Renaming::Offered(edits) => with_edits(alloc, session.text(), &edits),
         Renaming::Refused(refusal) => Ok(refusal.words(alloc)?),

@@ -126,9 +126,10 @@ some_old : (text name old : List ℕ) (rs : List Reference) → 0 < length old �
 some_old text name old [] some same = tt
 some_old text name old (r ∷ rs) some same =
     let count : length (span_bytes text r.span) ≡ length old =
-    ap (λ (l : List ℕ). length l) same.0 in
-    (omega (arith, some, count, length-take r.span.len (drop r.span.start text)),
-    some_old text name old rs some same.1)
+    ap (λ (l : List ℕ). length l) same.0 in (
+      omega (arith, some, count, length-take r.span.len (drop r.span.start text)),
+      some_old text name old rs some same.1,
+    )
 
 undoes : (text name old : List ℕ) (es : List Edit) (rs : List Reference) →
     ((one other : ℕ) → one ≤ other → moved_stop es one ≤ moved_stop es other) →

@@ -108,11 +108,5 @@ pub fn faulty_use(
     let mentions = all_mentions(alloc, text, lists)?;
     let tokens = all_tokens(alloc, &lists.pieces)?;
     let items = ItemTokens::of_text(text, &tokens, &lists.items.ends);
-    Ok(found_among(
-        text,
-        &items,
-        lists.links.kinds(),
-        &mentions,
-        names,
-    ))
+    Ok(found_among(text, &items, lists.links.kinds(), &mentions, names))
 }

@@ -12,10 +12,7 @@ use std::alloc::Global;
 fn declares_foreign(links: &Links, meaning: Meaning) -> Option<bool> {
     let number = meaning.number?;
     let declaration = links.declared(number)?;
-    Some(matches!(
-        declaration.variable.symbol_kind,
-        SymbolKind::Foreign
-    ))
+    Some(matches!(declaration.variable.symbol_kind, SymbolKind::Foreign))
 }
 
 /// Whether the name near an offset means one that `foreign` declares.

@@ -70,7 +70,11 @@ fn put_whole(out: &mut Vec<u8>, refusal: Refusal<'_>) -> Result<(), OutOfMemory>
         Refusal::Foreign { name } => put(out, &[b"C code declares '", name, b"'"]),
         Refusal::Table { part } => put(
             out,
-            &[b"the table of ", part_name(part), b" would not stay the same"],
+            &[
+                b"the table of ",
+                part_name(part),
+                b" would not stay the same",
+            ],
         ),
         _ => put(out, &[b"the text would be cut in another way"]),
     }
@@ -82,7 +86,11 @@ impl Refusal<'_> {
         let mut out = Vec::new(alloc);
         match self {
             Refusal::Unread { name, line } => {
-                put_at_line(&mut out, line, &[b"'", name, b"' is in C code, which is not read"])?
+                put_at_line(
+                    &mut out,
+                    line,
+                    &[b"'", name, b"' is in C code, which is not read"],
+                )?
             }
             Refusal::Faulty { name, line } => {
                 put_at_line(&mut out, line, &[b"'", name, b"' is in a faulty item"])?

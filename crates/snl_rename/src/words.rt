@@ -1,8 +1,8 @@
 //! Words of a text that is not read: letters, digits and `_` in a row. In: bytes and a word. Out:
 //! whether it is among theirs.
 
-
 ghost use Rattle.std.specs.Prelude.{◌≤◌, length};
+
 use snl_facts::are_same_bytes;
 
 /// Whether a byte is part of a word.

@@ -5,7 +5,7 @@ use Rattle.snl_rename.proofs.words.word_end.Given as goal
 abbrev pub invariant-loop-end : goal.invariant-loop-end
 invariant-loop-end l = record {
   low : l.from ≤ l.end;
-  inside : l.from ≤ length l.bytes → l.end ≤ length l.bytes
+  inside : l.from ≤ length l.bytes → l.end ≤ length l.bytes;
 }
 
 abbrev pub decreases-loop-end : goal.decreases-loop-end
