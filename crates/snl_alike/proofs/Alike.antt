@@ -1,6 +1,5 @@
 -- Two texts are alike, where what is kept of them is.
-use Rattle.std.proofs.Common.{◌≡◌, ℕ, IfNone, List, map, Option, None, Some, refl, sym, ap, ◌∙◌}
-use Rattle.snl_lex.specs.PieceList.{piece_ends}
+use Rattle.std.proofs.Common.{◌≡◌, ℕ, IfNone, List, map, Option, None, Some, sym, ap, ◌∙◌}
 use Rattle.snl_kept.specs.declared.kept.Kept.{Kept}
 use Rattle.snl_kept.specs.Kept.{IsKept}
 use Rattle.snl_questions.specs.Mentions.{mentions_in}

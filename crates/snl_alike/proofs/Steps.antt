@@ -1,5 +1,5 @@
 -- One more replacement: what follows it, what is made of the text, and where it stops there.
-use Rattle.std.proofs.Common.{◌≡◌, ℕ, zero, suc, ◌+◌, ◌-◌, ◌<◌, ◌≤◌, min, List, [], ◌∷◌, ◌++◌, drop, length, get_or, take, sym, ap, subst, ◌∙◌, arith, append_assoc, length-drop}
+use Rattle.std.proofs.Common.{◌≡◌, ℕ, ◌+◌, ◌-◌, ◌<◌, ◌≤◌, List, [], ◌∷◌, ◌++◌, drop, length, get_or, take, sym, ap, subst, ◌∙◌, arith, append_assoc, length-drop}
 use Rattle.std.proofs.lemmas.List.{drop_more, length-take-le}
 use Rattle.snl_alike.specs.declared.replacement.Replacement.{Replacement}
 use Rattle.snl_alike.specs.Edits.{Rise, edit_of, edited_from, edits_of, new_stop, new_stops}

@@ -1,5 +1,5 @@
 -- Where replacements stop in the new text, and what becomes of a place by these.
-use Rattle.std.proofs.Common.{◌≡◌, ℕ, zero, suc, ◌+◌, ◌-◌, ◌<◌, ◌≤◌, Bool, true, false, cond, List, [], ◌∷◌, length, get_or, refl, ap, ap₂, ◌∙◌, arith}
+use Rattle.std.proofs.Common.{◌≡◌, ℕ, zero, suc, ◌+◌, ◌-◌, ◌<◌, ◌≤◌, Bool, cond, List, [], ◌∷◌, length, get_or, refl, ap, ◌∙◌, arith}
 use Rattle.snl_alike.specs.declared.replacement.Replacement.{Replacement}
 use Rattle.snl_alike.specs.Edits.{AreSplit, Edit, edit_of, edits_of, last_stops, moved_after, moved_by, new_stop, new_stops}
 

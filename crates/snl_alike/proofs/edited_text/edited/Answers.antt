@@ -1,4 +1,4 @@
-use Rattle.std.proofs.Common.{◌≡◌, ℕ, ◌+◌, ◌-◌, ◌<◌, ◌≤◌, List, [], ◌∷◌, ◌++◌, drop, get_or, length, take, vec_len, sym, ap, ◌∙◌, subst, arith}
+use Rattle.std.proofs.Common.{◌≡◌, ℕ, ◌+◌, ◌-◌, ◌<◌, ◌≤◌, List, [], ◌∷◌, ◌++◌, drop, get_or, length, take, vec_len, ap, ◌∙◌, arith}
 use Rattle.snl_alike.specs.declared.replacement.Replacement.{Replacement}
 use Rattle.snl_alike.specs.Edits.{edit_of, edited_from, edits_of, new_stop, new_stops, with_edits}
 use Rattle.snl_alike.proofs.Rising.{within}

@@ -1,5 +1,5 @@
 use Rattle.std.proofs.Common.{◌≡◌, ℕ, suc, ◌-◌, ◌<◌, List, length, slice_index_or, ap, sym, ◌∙◌, arith}
-use Rattle.snl_alike.specs.Edits.{edits_of, last_stops, new_stops}
+use Rattle.snl_alike.specs.Edits.{edits_of, last_stops}
 use Rattle.snl_alike.proofs.Stops.{last_at, length_stops}
 use Rattle.snl_alike.proofs.moves.Moves.last_stops.Goals as goal
 

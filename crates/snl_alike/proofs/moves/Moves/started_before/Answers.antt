@@ -1,4 +1,4 @@
-use Rattle.std.proofs.Common.{ℕ, ltb, rules}
+use Rattle.std.proofs.Common.{ltb, rules}
 use Rattle.std.proofs.lemmas.List.Sorted.{IsPartitionPoint-from_clause, IsPartitionedBy-ltb}
 use Rattle.snl_alike.specs.declared.replacement.Replacement.{Replacement}
 use Rattle.snl_alike.proofs.moves.Moves.started_before.Goals as goal

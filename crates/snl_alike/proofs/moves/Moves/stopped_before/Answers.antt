@@ -1,4 +1,4 @@
-use Rattle.std.proofs.Common.{ℕ, leb, rules}
+use Rattle.std.proofs.Common.{leb, rules}
 use Rattle.std.proofs.lemmas.List.Sorted.{IsPartitionPoint-from_clause, IsPartitionedBy-leb}
 use Rattle.snl_alike.specs.declared.replacement.Replacement.{Replacement}
 use Rattle.snl_alike.proofs.moves.Moves.stopped_before.Goals as goal
