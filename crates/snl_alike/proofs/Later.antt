@@ -25,7 +25,8 @@ short_of base made e es place le =
     ap (λ (b : Bool). cond b (stop_from e.stop (new_stop base made e) es place)
     (made + (place - base))) (not_before e.start place le)
 
-at_base : (base made end : ℕ) (es : List Edit) → Rise base end es → stop_from base made es base ≡ made
+at_base : (base made end : ℕ) (es : List Edit) → Rise base end es →
+    stop_from base made es base ≡ made
 at_base base made end [] rise = omega arith
 at_base base made end (e ∷ es) rise = short_of base made e es base rise.0 ∙ omega arith
 

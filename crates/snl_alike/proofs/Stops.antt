@@ -17,8 +17,8 @@ last_at base made (x ∷ rs) (suc i) r d inside =
     last_at x.stop (new_stop base made (edit_of x)) rs i r d (omega (arith, inside))
 
 -- the edits before a place are the first so many
-pub moved_split : (before : Edit → Bool) (base made : ℕ) (rs : List Replacement) (count place : ℕ) →
-    count ≤ length rs → AreSplit before rs count →
+pub moved_split : (before : Edit → Bool) (base made : ℕ) (rs : List Replacement)
+    (count place : ℕ) → count ≤ length rs → AreSplit before rs count →
     moved_by before base made (edits_of rs) place ≡
     moved_after (last_stops base made (edits_of rs) count) place
 moved_split before base made [] zero place le split = refl

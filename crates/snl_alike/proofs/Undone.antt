@@ -16,7 +16,8 @@ take_front : (xs ys : List ℕ) (n : ℕ) → length xs ≡ n → take n (xs ++ 
 take_front [] ys zero e = refl
 take_front [] ys (suc n) e = absurd (omega (arith, e))
 take_front (x ∷ xs) ys zero e = absurd (omega (arith, e))
-take_front (x ∷ xs) ys (suc n) e = ap (λ (l : List ℕ). x ∷ l) (take_front xs ys n (omega (arith, e)))
+take_front (x ∷ xs) ys (suc n) e =
+    ap (λ (l : List ℕ). x ∷ l) (take_front xs ys n (omega (arith, e)))
 
 -- the bytes between two places, and those from the second one on
 joined : (text : List ℕ) (from to : ℕ) → from ≤ to →
@@ -46,15 +47,22 @@ undone_after text base made front (e ∷ es) count rise =
     ∙ take_front kept (e.new ++ rest) (e.start - base) kept_count in
     let next : List ℕ = (front ++ kept) ++ e.new in
     let next_count : length next ≡ new_stop base made e =
-    omega (arith, length-append (front ++ kept) e.new, length-append front kept, count, kept_count) in
+    omega (
+      arith,
+      length-append (front ++ kept) e.new,
+      length-append front kept,
+      count,
+      kept_count,
+    ) in
     let same_text : front ++ more ≡ next ++ rest =
     sym (append_assoc (front ++ kept) e.new rest ∙ append_assoc front kept (e.new ++ rest)) in
     let stop = new_stop base made e in
-    let later : edited_from (front ++ more) stop (undone_from text e.stop stop es) ≡ drop e.stop text =
-    ap (λ (l : List ℕ). edited_from l stop (undone_from text e.stop stop es)) same_text
+    let undo = undone_from text e.stop stop es in
+    let later : edited_from (front ++ more) stop undo ≡ drop e.stop text =
+    ap (λ (l : List ℕ). edited_from l stop undo) same_text
     ∙ undone_after text e.stop stop next es next_count rise.2 in
     let old : List ℕ = take (e.stop - e.start) (drop e.start text) in
-    ap (λ (l : List ℕ). l ++ (old ++ edited_from (front ++ more) stop (undone_from text e.stop stop es)))
+    ap (λ (l : List ℕ). l ++ (old ++ edited_from (front ++ more) stop undo))
     same_front
     ∙ ap (λ (l : List ℕ). kept ++ (old ++ l)) later
     ∙ ap (λ (l : List ℕ). kept ++ l) (joined text e.start e.stop rise.1)

@@ -25,8 +25,9 @@ pub record SameBut (text : List ℕ) (es : List Edit) (new : List ℕ) : Type 0 
   pub found : diagnostics_of new ≡ map (moved_diagnostic es) (diagnostics_of text)
   pub tables : tables_in new ≡ moved_tables es (tables_in text)
 
--- The pieces are those of the text, each at its place, and the items are cut alike. Each token means
--- what it meant: it is told by its item and its number there, so no place of the text is in this.
+-- The pieces are those of the text, each at its place, and the items are cut alike. Each token
+-- means what it meant: it is told by its item and its number there, so no place of the text is in
+-- this.
 pub record AreAlike (text : List ℕ) (es : List Edit) (new : List ℕ) : Type 0 where
   pub kinds : piece_kinds new ≡ piece_kinds text
   pub ends : piece_ends new ≡ map (moved_stop es) (piece_ends text)

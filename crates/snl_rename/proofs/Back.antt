@@ -38,7 +38,8 @@ of_token es (Some p) = refl
 span_moved : (es : List Edit) (xs : List (List Piece)) (i n : ℕ) →
     span_at (map (map (moved_token es)) xs) i n ≡ option_map (moved_span es) (span_at xs i n)
 span_moved es xs i n =
-    ap (λ (o : Option (List Piece)). option_and_then (λ own. option_map span_of (slice_get own n)) o)
+    ap (λ (o : Option (List Piece)). option_and_then
+    (λ own. option_map span_of (slice_get own n)) o)
     (slice_get-map (map (moved_token es)) xs i)
     ∙ by (slice_get xs i)
   where
@@ -99,7 +100,8 @@ all_back old es xs q (m ∷ ms) =
 near_back : (text new old : List ℕ) (offset back : ℕ) (es : List Edit) →
     item_tokens new ≡ map (map (moved_token es)) (item_tokens text) →
     mentions_in new ≡ mentions_in text → mentioned_near new back ≡ mentioned_near text offset →
-    map (edit_to old) (references_near new back) ≡ map (edit_back old es) (references_near text offset)
+    map (edit_to old) (references_near new back) ≡
+    map (edit_back old es) (references_near text offset)
 unfolding references_near
 near_back text new old offset back es items mentions near =
     ap (λ (o : Option TokenPlace). map (edit_to old) (option_map_or (references_of new) o [])) near

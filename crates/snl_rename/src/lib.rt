@@ -7,6 +7,7 @@ mod faulty;
 mod foreign;
 mod laws;
 mod names;
+mod near;
 mod objections;
 mod places;
 mod proposed;
@@ -17,6 +18,7 @@ mod words;
 
 pub use laws::renamed_there_and_back;
 pub use names::is_free_name;
+pub use near::name_near;
 pub use refusal::Refusal;
 pub use renaming::{Renaming, rename};
 pub use snl_alike::Replacement;

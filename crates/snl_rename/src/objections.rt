@@ -1,5 +1,5 @@
-//! Why a name is not to be another one, as far as words tell. In: what is kept of a text, an offset,
-//! and both names. Out: the first objection, if there is one.
+//! Why a name is not to be another one, as far as words tell. In: what is kept of a text, an
+//! offset, and both names. Out: the first objection, if there is one.
 
 ghost use Rattle.snl_kept.specs.Kept.{IsListed};
 

@@ -44,7 +44,12 @@ loop-replacement-preserved c =
     ∙ ap (λ (l : List ℕ). made.items ++ l) c.bytes_between.ensures) in
     let len : vec_len c.extend_from_slice-in-loop-replacement.new.self
     ≡ new_stop base (vec_len made) (edit_of r) =
-    omega (arith, kept, c.in_ok-extend_from_slice.ensures.len, c.in_ok-extend_from_slice-2.ensures.len) in
+    omega (
+      arith,
+      kept,
+      c.in_ok-extend_from_slice.ensures.len,
+      c.in_ok-extend_from_slice-2.ensures.len,
+    ) in
     record {
       rise = more.2;
       text = ap (λ (l : List ℕ). l ++ edited_from old r.stop (edits_of (drop (i + 1) rs))) text

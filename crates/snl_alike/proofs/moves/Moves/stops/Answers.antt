@@ -7,6 +7,7 @@ pub returns : goal.returns
 unfolding moved_stop
 returns c = λ yes.
     c.becomes_after.ensures yes
-    ∙ sym (moved_split (λ (e : Edit). nat_lt e.start c.args.old) 0 0 c.args.self.now.replacements.now
+    ∙ sym (moved_split (λ (e : Edit). nat_lt e.start c.args.old) 0 0
+    c.args.self.now.replacements.now
     c.started_before.result c.args.old c.started_before.ensures.inside
     c.started_before.ensures.split)
