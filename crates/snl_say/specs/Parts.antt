@@ -31,7 +31,7 @@ ranges_data id parts = answer_data id (array (parts_items part_range parts))
 
 -- A part, with what comes after its range.
 unfoldable pub part_text : (end : List ℕ) → Place × Place → List ℕ
-part_text end part = concat (codes "{\"range\":" ∷ range_text part.0 part.1 ∷ end ∷ [])
+part_text end part = codes "{\"range\":" ++ (range_text part.0 part.1 ++ end)
 
 -- A part after another one.
 abbrev pub after_comma : (end : List ℕ) → Place × Place → List ℕ
@@ -52,7 +52,7 @@ parts_with id end parts =
 
 -- What comes after the range of a location, by the URI as a string of JSON, quotes included.
 abbrev pub location_end : (quoted_uri : List ℕ) → List ℕ
-location_end quoted_uri = concat (codes ",\"uri\":" ∷ quoted_uri ∷ codes "}" ∷ [])
+location_end quoted_uri = codes ",\"uri\":" ++ (quoted_uri ++ codes "}")
 
 abbrev pub locations_with : (id : Data) → (quoted_uri : List ℕ) → List (Place × Place) → List ℕ
 locations_with id quoted_uri parts = parts_with id (location_end quoted_uri) parts

@@ -93,11 +93,7 @@ pub fn put_locations(
 }
 
 /// Parts by their ranges alone. An `Err`, of memory, may leave a front of the bytes.
-pub fn put_ranges(
-    out: &mut Vec<u8>,
-    id: Id<'_>,
-    parts: &[(Place, Place)],
-) -> Result<(), AllocError>
+pub fn put_ranges(out: &mut Vec<u8>, id: Id<'_>, parts: &[(Place, Place)]) -> Result<(), AllocError>
     ensures { OnOk result (out.new.items ≡ out.old.items
         ++ ranges_text (id_data id.entry) parts.now) }
 {

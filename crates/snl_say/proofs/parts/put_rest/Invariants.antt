@@ -5,4 +5,4 @@ use Rattle.snl_say.proofs.parts.put_rest.Given as goal
 
 abbrev pub invariant-loop-part : goal.invariant-loop-part
 invariant-loop-part l =
-    l.out.items ≡ l.initial.out.items ++ flat_map (after_comma l.end.now) (take l.part-index l.rest)
+    l.out.items ≡ l.initial.out.items ++ flat_map (after_comma l.end) (take l.part-index l.rest)
