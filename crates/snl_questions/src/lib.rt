@@ -17,7 +17,8 @@ pub use document_symbols::text_symbols::symbols;
 pub use hovers::near::{Hover, hover_at};
 pub use meanings::items::{TokenPlace, span_bytes};
 pub use meanings::laws::names_mean_their_like;
-pub use meanings::near::{Meaning, meaning_near};
+pub use meanings::near::{Meaning, meaning_near, meaning_of};
+pub use meanings::text_items::TextItems;
 pub use mentions::laws::{
     mentions_are_exact, names_are_their_references, references_are_spelled_alike,
 };

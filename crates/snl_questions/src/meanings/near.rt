@@ -73,9 +73,10 @@ fn meaning_between(
     })
 }
 
-// What the name at an offset means, by the tokens of the text.
+/// What the name that has the byte at an offset means, by the tokens of the text: none where no token
+/// has it, or the token means nothing. The only error is want of memory.
 #[tactic(auto, unfolding(crate::specs::Meanings::meaning_of))]
-fn meaning_among(
+pub fn meaning_of(
     alloc: Global,
     lists: &Lists,
     items: &TextItems,
@@ -104,13 +105,13 @@ fn meaning_near_among(
     requires { IsListed items.now.text.now lists.now }
     ensures { IfOk result (λ m. m ≡ meaning_near items.now.text.now offset) }
 {
-    if let Some(meaning) = meaning_among(alloc, lists, items, offset)? {
+    if let Some(meaning) = meaning_of(alloc, lists, items, offset)? {
         return Ok(Some(meaning));
     }
     if offset == 0 {
         return Ok(None);
     }
-    meaning_among(alloc, lists, items, offset - 1)
+    meaning_of(alloc, lists, items, offset - 1)
 }
 
 /// What the name means that a cursor at an offset is on: that which has the byte there, and where
