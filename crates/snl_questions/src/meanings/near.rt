@@ -73,8 +73,8 @@ fn meaning_between(
     })
 }
 
-/// What the name that has the byte at an offset means, by the tokens of the text: none where no token
-/// has it, or the token means nothing. The only error is want of memory.
+/// What the name that has the byte at an offset means, by the tokens of the text: none where no
+/// token has it, or the token means nothing. The only error is want of memory.
 #[tactic(auto, unfolding(crate::specs::Meanings::meaning_of))]
 pub fn meaning_of(
     alloc: Global,
