@@ -106,8 +106,8 @@ class Asking:
 
     def ask_at(self, text, line, character):
         """A definition and a hover at one place: both are there or none, and the hover begins with
-        the line of the declaration. At a token at fault the hover says what may come there."""
-        the line of the declaration. Then references and highlights, by the model alone."""
+        the line of the declaration. At a token at fault the hover says what may come there. Then
+        references and highlights, by the model alone."""
         found = self.result("definition", line, character)
         hover = self.result("hover", line, character)
         self.result("references", line, character, self.chance.random() < 0.5)

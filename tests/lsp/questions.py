@@ -121,6 +121,7 @@ FAULTS = (
     (4, 19, None, None),
     (6, 1, "expected an item; did you mean 'state'?", in_line(6, 0, 4)),
 )
+
 # Where a cursor is, where the name there is declared, and where it is named besides, in the order of
 # the text; none where it means nothing.
 REFERENCES = (
@@ -142,11 +143,13 @@ REFERENCES = (
     ("after the text", 99, 9, None, []),
     ("the program", 0, 9, None, []),
     ("a name that isn't declared", 7, 11, None, []),
+)
 # A function with a prototype: that is no definition, but it is a reference.
 PROTOTYPE = """program p
 int f(int n);
 int f(int n) { return n; }
 ss s { state a { when (f(1)) { } exit } }
+"""
 FUNCTION = in_line(2, 4, 5)
 CALLED = [in_line(1, 4, 5), FUNCTION, in_line(3, 23, 24)]
 
@@ -223,14 +226,13 @@ def by_hand():
         yield f"the definition at {name}", [opened, asked], [located(declared)]
     for line, character, value, marked_range in HOVERS:
         asked = ask(1, "hover", URI, line, character)
-        yield f"the hover at {line}:{character}", [opened, asked], [told(value, marked)]
-    for line, character, value, marked in FAULTS:
+        yield f"the hover at {line}:{character}", [opened, asked], [told(value, marked_range)]
+    for line, character, value, marked_range in FAULTS:
         asked = ask(1, "hover", URI, line, character)
         faulty = [did_open(URI, FAULTY), asked]
-        yield f"what is said of a fault at {line}:{character}", faulty, [told(value, marked)]
+        yield f"what is said of a fault at {line}:{character}", faulty, [told(value, marked_range)]
     short = [did_open(URI, "program p\nint x"), ask(1, "hover", URI, 1, 5)]
     yield "what is said of a fault at the end", short, [told(DECLARATOR, in_line(1, 4, 5))]
-        yield f"the hover at {line}:{character}", [opened, asked], [told(value, marked_range)]
     yield from references_by_hand()
     yield from at_other_times()
 

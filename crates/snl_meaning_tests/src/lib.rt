@@ -14,4 +14,5 @@ mod notes;
 mod references;
 #[cfg(test)]
 mod related;
+#[cfg(test)]
 mod renames;
