@@ -12,7 +12,7 @@ index($0, "\001") > 1 {
     $0 = substr($0, at)
 }
 /^\001send / { sent[++sends] = $2; if (sends == 1) begin_source($2); next }
-/^\001fault / { say(substr($0, 8)); next }
+/^\001fault / { faults++; say(substr($0, 8)); next }
 /^\001end / { end_report($2); next }
 lines_left { lines_left--; print; next }
 match($0, /: errors [0-9]+ warnings [0-9]+$/) { take_sum(substr($0, RSTART + 2)); next }
@@ -41,7 +41,7 @@ function take_sum(sum,    word) {
 function end_report(status,    i) {
     for (i = answered + 1; i <= sends; i++) {
         if (status < 2) say("check: the program gave no answer for " names[sent[i]])
-        else if (files > 1) say("check: " names[sent[i]] " could not be checked")
+        else if (files > 1 || !faults) say("check: " names[sent[i]] " could not be checked")
         missed++
     }
     if (status > 1 && answered == sends) missed++
