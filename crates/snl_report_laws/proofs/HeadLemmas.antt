@@ -10,6 +10,8 @@ use Rattle.snl_excerpt.specs.Lines.{at_start, shown, shown_bytes}
 use Rattle.snl_excerpt.specs.Safe.{IsPrintable}
 use Rattle.snl_kept.specs.declared.found.findings.Diagnostic.{Diagnostic}
 use Rattle.snl_kept.specs.Diagnostics.{message_of, name_of}
+use Rattle.snl_report.specs.declared.paint.Paint.TheVariants.{Plain}
+use Rattle.snl_report.specs.Paints.{off, on}
 use Rattle.snl_report.specs.Heads.{finding_text, head_text, name_shown, place_text, quoted_shown}
 use Rattle.snl_report_laws.specs.Columns.{IsLineWithColumn}
 use Rattle.snl_run.specs.Answers.{line_text}
@@ -51,8 +53,8 @@ no_file text file h = ap (file_text text) h
 own_name : Same → (name text : List ℕ) (file : Option (ℕ × ℕ)) → file ≡ None → All IsPrintable name → name_shown name text file ≡ name
 own_name same name text file h printable = ap (name_shown name text) h ∙ plain same name printable
 
-pub head_is_line : Same → (name text : List ℕ) (column : ℕ) (d : Diagnostic) → d.file ≡ None → All IsPrintable name → All IsPrintable (slice_of text d.offset d.subject) → IsLineWithColumn name d.line column (line_text text d) (head_text name text column d)
-unfolding head_text finding_text rest_of
+pub head_is_line : Same → (name text : List ℕ) (column : ℕ) (d : Diagnostic) → d.file ≡ None → All IsPrintable name → All IsPrintable (slice_of text d.offset d.subject) → IsLineWithColumn name d.line column (line_text text d) (head_text Plain name text column d)
+unfolding head_text finding_text on off rest_of
 head_is_line same name text column d file printable quotation = record {
   rest = rest_of text d;
   line_is = line_parts (file_text text d.file) (decimal d.line) (name_of d.code) (message_of d.code) (quoted (slice_of text d.offset d.subject)) (no_file text d.file file);
