@@ -22,3 +22,4 @@ mod Lines
 mod Wakes
 mod OwnReference
 mod Faults
+mod FaultPlaces

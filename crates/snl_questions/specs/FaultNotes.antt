@@ -1,5 +1,5 @@
 -- What is said of the token at which a faulty item stops making one.
-use Rattle.std.specs.Prelude.{ℕ, ◌==◌, Bool, false, List, Option, Some, None, if◌then◌else◌, option_and_then, option_map, slice_get, string_bytes}
+use Rattle.std.specs.Prelude.{◌≡◌, ℕ, ◌==◌, Bool, false, List, Option, Some, None, if◌then◌else◌, option_and_then, option_map, slice_get, string_bytes}
 use Rattle.snl_lex.specs.declared.piece.Piece.{Piece}
 use Rattle.snl_lex.specs.Pieces.{piece_end}
 use Rattle.snl_grammar.specs.declared.outcome.Parsed.{Parsed}
@@ -78,3 +78,12 @@ told_at_place text p =
 unfoldable pub fault_noted : List ℕ → (offset : ℕ) → Option FaultTold
 fault_noted text offset =
     option_and_then (told_at_place text) (place_from offset 0 (item_tokens text))
+
+-- ---- the law
+
+-- Token `at` of an item of the text is at fault.
+pub record IsFault (text : List ℕ) (own : List Piece) (at : ℕ) (token : Piece) : Type 0 where
+  pub item : ℕ
+  pub own_at : slice_get (item_tokens text) item ≡ Some own
+  pub token_at : slice_get own at ≡ Some token
+  pub blamed : parsed_in text own ≡ parsed.NoItem at
