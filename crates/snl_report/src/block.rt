@@ -2,7 +2,8 @@
 //! In: the name of a text, the text, a finding and its place. Out: the lines, after bytes that are
 //! there. Notes would come after them.
 
-ghost use Rattle.std.specs.Prelude.{◌≡◌, ℕ, ◌+◌, ◌^◌, ◌<◌, ◌++◌, List, length, min, option_map, OnOk};
+ghost use Rattle.std.specs.Prelude.{◌≡◌, ℕ, ◌+◌, ◌^◌, ◌<◌, ◌++◌, List, length, min, option_map};
+ghost use Rattle.std.specs.Prelude.{OnOk};
 ghost use Rattle.snl_excerpt.specs.Columns.{IsCursor};
 ghost use Rattle.snl_report.specs.Blocks.{block_at, hint_text};
 ghost use Rattle.snl_report.specs.Noted.{said_of};
@@ -53,7 +54,8 @@ pub fn put_end(out: &mut Vec<u8>, paint: Paint) -> Result<(), AllocError>
 /// Puts the name that is near an unknown one, after the marks of that.
 fn put_hint(out: &mut Vec<u8>, text: &[u8], note: Option<Note>) -> Result<(), AllocError>
     requires { length text.now < 2 ^ 32 }
-    ensures { OnOk result (out.new.items ≡ out.old.items ++ hint_text text.now (option_map said_of note.entry)) }
+    ensures { OnOk result (out.new.items ≡ out.old.items ++ hint_text text.now (option_map said_of
+        note.entry)) }
 {
     let Some(note) = note else {
         return Ok(());

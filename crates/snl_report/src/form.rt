@@ -2,7 +2,8 @@
 
 use crate::paint::Paint;
 
-/// How findings are written: as blocks with their lines, or each on a line that other programs read.
+/// How findings are written: as blocks with their lines, or each on a line that other programs
+/// read.
 #[derive(Clone, Copy, Debug, PartialEq, Eq)]
 pub enum Form {
     Report,

@@ -5,7 +5,8 @@
 ghost use Rattle.std.specs.Prelude.{◌≡◌, ◌++◌, IfOk, OnOk, option_map};
 ghost use Rattle.snl_excerpt.specs.Columns.{IsCursor};
 ghost use Rattle.snl_forms.specs.Forms.{at_of, note_of, notes_of, said_of};
-ghost use Rattle.snl_report.specs.Formed.{at_place, begins_character, column_by, file_of, message_for};
+ghost use Rattle.snl_report.specs.Formed.{at_place, begins_character, column_by, file_of};
+ghost use Rattle.snl_report.specs.Formed.{message_for};
 ghost use Rattle.snl_report.specs.Formed.{line_of, note_for, note_on, notes_for, said_at, units};
 ghost use Rattle.snl_report.specs.Noted.{said_of as said_of_note};
 ghost use Rattle.snl_script.specs.Parts.{quoted};
@@ -147,7 +148,8 @@ fn told<'a>(
     requires cursor { IsCursor reported.text.now from }
     requires message { message.now ≡ message_for reported.text.now diagnostic.now }
     ensures { said_of result ≡ said_at reported.entry.style.form reported.entry.name.now
-        reported.entry.text.now from.offset from.before diagnostic.now (option_map said_of_note note.entry) }
+        reported.entry.text.now from.offset from.before diagnostic.now (option_map said_of_note
+        note.entry) }
 {
     let file = file_of(reported.name, reported.text, diagnostic.file);
     let len = extent(reported.text, from.offset, diagnostic.subject);

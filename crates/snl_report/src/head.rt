@@ -4,7 +4,8 @@
 //! What comes from the text and its name is shown as a terminal can show it.
 
 ghost use Rattle.std.specs.Prelude.{◌≡◌, ℕ, ◌^◌, ◌<◌, ◌++◌, List, length, take, drop, OnOk};
-ghost use Rattle.snl_report.specs.Heads.{finding_text, head_text, name_shown, place_text, quoted_shown};
+ghost use Rattle.snl_report.specs.Heads.{finding_text, head_text, name_shown, place_text};
+ghost use Rattle.snl_report.specs.Heads.{quoted_shown};
 ghost use Rattle.snl_script.specs.Parts.{slice_of};
 
 use crate::paint::{Paint, Part, part_of, put_off, put_on};
@@ -74,7 +75,8 @@ fn put_finding(
     diagnostic: &Diagnostic,
 ) -> Result<(), AllocError>
     requires { length text.now < 2 ^ 32 }
-    ensures { OnOk result (out.new.items ≡ out.old.items ++ finding_text paint text.now diagnostic.now) }
+    ensures { OnOk result (out.new.items ≡ out.old.items ++ finding_text paint text.now
+        diagnostic.now) }
 {
     put_on(out, paint, part_of(diagnostic.code))?;
     out.extend_from_slice(diagnostic.code.name().as_bytes())?;

@@ -62,7 +62,8 @@ fn put_note_at(
 ) -> Result<(), AllocError>
     requires { IsCursor reported.text.now from }
     ensures { OnOk result (out.new.items ≡ out.old.items ++ note_at reported.entry.style.paint
-        reported.entry.name.now reported.entry.text.now from.offset from.before line (said_of note.entry)) }
+        reported.entry.name.now reported.entry.text.now from.offset from.before line (said_of
+        note.entry)) }
 {
     let (paint, text) = (reported.style.paint, reported.text);
     put_note_head(

@@ -3,7 +3,8 @@
 
 ghost use Rattle.std.specs.Prelude.{◌≡◌, IfOk, None, option_map};
 ghost use Rattle.snl_kept.specs.Kept.{IsListed};
-ghost use Rattle.snl_report.specs.Noted.{fault_text, is_near, is_syntax_error, noted_in, noted_text, related_text, said_of};
+ghost use Rattle.snl_report.specs.Noted.{fault_text, is_near, is_syntax_error, noted_in};
+ghost use Rattle.snl_report.specs.Noted.{noted_text, related_text, said_of};
 
 use snl_codes::Code;
 use snl_cut::OutOfMemory;

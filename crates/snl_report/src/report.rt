@@ -1,15 +1,17 @@
 //! The report of a text.
-//! In: a name, and a session over the text. Out: a block for each of the text's diagnostics, and how
-//! many there are, to a watched writer. One block is in memory at a time.
+//! In: a name, and a session over the text. Out: a block for each of the text's diagnostics, and
+//! how many there are, to a watched writer. One block is in memory at a time.
 
-ghost use Rattle.std.specs.Prelude.{◌≡◌, ℕ, ◌^◌, ◌<◌, ◌||◌, [], ◌++◌, List, length, IfOk, OnOk, flat_map, is_err, option_map};
+ghost use Rattle.std.specs.Prelude.{◌≡◌, ℕ, ◌^◌, ◌<◌, ◌||◌, [], ◌++◌, List, length, IfOk, OnOk};
+ghost use Rattle.std.specs.Prelude.{flat_map, is_err, option_map};
 ghost use Rattle.snl_excerpt.specs.Columns.{IsCursor};
 ghost use Rattle.snl_kept.specs.Diagnostics.{diagnostics_of};
 ghost use Rattle.snl_kept.specs.Kept.{IsListed};
 ghost use Rattle.snl_report.specs.Faults.{is_unwritten};
 ghost use Rattle.snl_report.specs.Formed.{formed, formed_at};
 ghost use Rattle.snl_report.specs.Noted.{said_of};
-ghost use Rattle.snl_report.specs.Reports.{blocks, name_line, plain_block, noted_block, report_of, sum_line};
+ghost use Rattle.snl_report.specs.Reports.{blocks, name_line, plain_block, noted_block, report_of};
+ghost use Rattle.snl_report.specs.Reports.{sum_line};
 ghost use Rattle.snl_script.specs.Said.{Said, Written};
 ghost use Rattle.snl_script.specs.Watched.{failed_of, inner_of};
 
@@ -81,7 +83,8 @@ fn put_finding(
 ) -> Result<(), AllocError>
     requires { IsCursor reported.text.now from }
     ensures { OnOk result (room.new.items ≡ room.old.items ++ formed_at reported.entry.style.paint
-        reported.entry.style.form reported.entry.name.now reported.entry.text.now from.offset from.before
+        reported.entry.style.form reported.entry.name.now reported.entry.text.now from.offset
+        from.before
         diagnostic.now (option_map said_of note.entry)) }
 {
     match reported.style.form {
@@ -105,7 +108,8 @@ fn put_alone(
 ) -> Result<Cursor, AllocError>
     requires { IsCursor reported.text.now from }
     ensures put { OnOk result (room.new.items ≡ formed reported.entry.style
-        reported.entry.name.now reported.entry.text.now diagnostic.now (option_map said_of note.entry)) }
+        reported.entry.name.now reported.entry.text.now diagnostic.now (option_map said_of
+        note.entry)) }
     ensures cursor { IfOk result (λ here. IsCursor reported.entry.text.now here) }
 {
     let here = from.at(reported.text, diagnostic.offset);
@@ -126,8 +130,10 @@ fn say_block<W: Write>(
     note: Option<Note>,
 ) -> Result<Cursor, ReportFault>
     requires { IsCursor reported.text.now from }
-    ensures said { Said result (W.contents (inner_of out.old)) (W.contents (inner_of out.new)) page.new
-        (page.old ++ formed reported.entry.style reported.entry.name.now reported.entry.text.now diagnostic.now (option_map said_of note.entry)) }
+    ensures said { Said result (W.contents (inner_of out.old)) (W.contents (inner_of out.new))
+        page.new
+        (page.old ++ formed reported.entry.style reported.entry.name.now reported.entry.text.now
+        diagnostic.now (option_map said_of note.entry)) }
     ensures cursor { IfOk result (λ here. IsCursor reported.entry.text.now here) }
     ensures failed { failed_of out.new ≡ (failed_of out.old || is_unwritten result) }
 {
@@ -150,8 +156,9 @@ fn say_noted_block<W: Write>(
     requires cursor { IsCursor reported.text.now from }
     requires same { relations.now.items.text.now ≡ reported.text.now }
     requires listed { IsListed relations.now.items.text.now relations.now.lists.now }
-    ensures said { Said result (W.contents (inner_of out.old)) (W.contents (inner_of out.new)) page.new
-        (page.old ++ noted_block reported.entry.style reported.entry.name.now reported.entry.text.now diagnostic.now) }
+    ensures said { Said result (W.contents (inner_of out.old)) (W.contents (inner_of out.new))
+        page.new (page.old ++ noted_block reported.entry.style reported.entry.name.now
+        reported.entry.text.now diagnostic.now) }
     ensures cursor { IfOk result (λ here. IsCursor reported.entry.text.now here) }
     ensures failed { failed_of out.new ≡ (failed_of out.old || is_unwritten result) }
 {
@@ -180,8 +187,9 @@ fn say_noted_blocks<W: Write>(
 ) -> Result<(), ReportFault>
     requires same { relations.now.items.text.now ≡ reported.text.now }
     requires listed { IsListed relations.now.items.text.now relations.now.lists.now }
-    ensures said { Said result (W.contents (inner_of out.old)) (W.contents (inner_of out.new)) page.new
-        (page.old ++ flat_map (noted_block reported.entry.style reported.entry.name.now reported.entry.text.now)
+    ensures said { Said result (W.contents (inner_of out.old)) (W.contents (inner_of out.new))
+        page.new (page.old ++ flat_map (noted_block reported.entry.style reported.entry.name.now
+        reported.entry.text.now)
         diagnostics.now) }
     ensures failed { failed_of out.new ≡ (failed_of out.old || is_unwritten result) }
 {
@@ -203,8 +211,9 @@ fn say_plain_blocks<W: Write>(
     reported: Reported,
     diagnostics: &[Diagnostic],
 ) -> Result<(), ReportFault>
-    ensures said { Said result (W.contents (inner_of out.old)) (W.contents (inner_of out.new)) page.new
-        (page.old ++ flat_map (plain_block reported.entry.style reported.entry.name.now reported.entry.text.now)
+    ensures said { Said result (W.contents (inner_of out.old)) (W.contents (inner_of out.new))
+        page.new (page.old ++ flat_map (plain_block reported.entry.style reported.entry.name.now
+        reported.entry.text.now)
         diagnostics.now) }
     ensures failed { failed_of out.new ≡ (failed_of out.old || is_unwritten result) }
 {
@@ -226,8 +235,9 @@ fn say_first_blocks<W: Write>(
     diagnostics: &[Diagnostic],
 ) -> Result<(), ReportFault>
     requires { session.now ≡ reported.text.now }
-    ensures said { Said result (W.contents (inner_of out.old)) (W.contents (inner_of out.new)) page.new
-        (page.old ++ flat_map (noted_block reported.entry.style reported.entry.name.now reported.entry.text.now)
+    ensures said { Said result (W.contents (inner_of out.old)) (W.contents (inner_of out.new))
+        page.new (page.old ++ flat_map (noted_block reported.entry.style reported.entry.name.now
+        reported.entry.text.now)
         diagnostics.now) }
     ensures failed { failed_of out.new ≡ (failed_of out.old || is_unwritten result) }
 {
@@ -250,8 +260,10 @@ fn say_blocks<W: Write>(
     session: &Session,
 ) -> Result<(), ReportFault>
     requires { session.now ≡ reported.text.now }
-    ensures said { Said result (W.contents (inner_of out.old)) (W.contents (inner_of out.new)) page.new
-        (page.old ++ blocks reported.entry.style reported.entry.name.now reported.entry.text.now (diagnostics_of session.now)) }
+    ensures said { Said result (W.contents (inner_of out.old)) (W.contents (inner_of out.new))
+        page.new
+        (page.old ++ blocks reported.entry.style reported.entry.name.now reported.entry.text.now
+        (diagnostics_of session.now)) }
     ensures failed { failed_of out.new ≡ (failed_of out.old || is_unwritten result) }
 {
     let all = session.diagnostics();
@@ -281,8 +293,8 @@ fn say_sum<W: Write>(
     warnings: usize,
 ) -> Result<(), ReportFault>
     requires { length name.now < 2 ^ 32 }
-    ensures said { Said result (W.contents (inner_of out.old)) (W.contents (inner_of out.new)) page.new
-        (page.old ++ sum_line name.now errors warnings) }
+    ensures said { Said result (W.contents (inner_of out.old)) (W.contents (inner_of out.new))
+        page.new (page.old ++ sum_line name.now errors warnings) }
     ensures failed { failed_of out.new ≡ (failed_of out.old || is_unwritten result) }
 {
     put_name_alone(room, name)?;
@@ -303,8 +315,8 @@ fn say_report<W: Write>(
     session: &Session,
 ) -> Result<(), ReportFault>
     requires { length name.now < 2 ^ 32 }
-    ensures said { Said result (W.contents (inner_of out.old)) (W.contents (inner_of out.new)) page.new
-        (page.old ++ report_of style name.now session.now) }
+    ensures said { Said result (W.contents (inner_of out.old)) (W.contents (inner_of out.new))
+        page.new (page.old ++ report_of style name.now session.now) }
     ensures failed { failed_of out.new ≡ (failed_of out.old || is_unwritten result) }
 {
     let reported = Reported {

@@ -11,12 +11,14 @@ ghost use Rattle.snl_script.specs.Parts.{slice_of};
 
 use snl_excerpt::shown_as_it_is;
 
-/// The first line of a finding without colours, and without its column, is the name and the line that `check` prints:
+/// The first line of a finding without colours, and without its column, is the name and the line
+/// that `check` prints:
 /// where no line marker gives the line a file, and name and quotation are printable ASCII.
 pub fn heads_are_lines()
     ensures { (name text : List ℕ) (column : ℕ) (d : Diagnostic) → d.file ≡ None
         → All IsPrintable name → All IsPrintable (slice_of text d.offset d.subject)
-        → IsLineWithColumn name d.line column (line_text text d) (head_text Plain name text column d) }
+        → IsLineWithColumn name d.line column (line_text text d) (head_text Plain name text column
+        d) }
 {
     shown_as_it_is();
 }
