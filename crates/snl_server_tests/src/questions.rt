@@ -46,7 +46,7 @@ static QUESTIONS: [(&[u8], &str); 12] = [
         "{\"id\":8,\"jsonrpc\":\"2.0\",\"result\":[{\"range\":{\"end\":{\"character\":15,\"line\":1},\"start\":{\"character\":14,\"line\":1}},\"uri\":\"f:p\"},{\"range\":{\"end\":{\"character\":33,\"line\":1},\"start\":{\"character\":32,\"line\":1}},\"uri\":\"f:p\"},{\"range\":{\"end\":{\"character\":24,\"line\":2},\"start\":{\"character\":23,\"line\":2}},\"uri\":\"f:p\"}]}\n",
     ),
     (
-        b"{\"id\":9,\"method\":\"textDocument/documentHighlight\",\"params\":{\"textDocument\":{\"uri\":\"f:p\"},\"position\":{\"line\":2,\"character\":38}}}",
+        b"{\"id\":9,\"method\":\"textDocument/documentHighlight\",\"params\":{\"textDocument\":{\"uri\":\"f:p\"},\"position\":{\"line\":2,\"character\":37}}}",
         "{\"id\":9,\"jsonrpc\":\"2.0\",\"result\":[{\"range\":{\"end\":{\"character\":14,\"line\":2},\"start\":{\"character\":13,\"line\":2}}},{\"range\":{\"end\":{\"character\":37,\"line\":2},\"start\":{\"character\":36,\"line\":2}}}]}\n",
     ),
     (
