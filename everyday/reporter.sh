@@ -39,12 +39,16 @@ run_program() {
     exec {input}>&-
     wait $!
     status=$?
-    echo
+    end_line
     while read -t 0 -u "$faults" && IFS= read -r -t 1 -u "$faults" line; do
         mark fault "$line"
     done
     mark end "$status"
 }
+
+end_line() {
+    echo
+} 2> /dev/null
 
 # Takes in a text, by its number: a small one as it is, and another one in a copy, which stays as it
 # is while it is sent. A byte 0 is nothing that the shell can hold.
