@@ -3,7 +3,7 @@ of docs/PROVED.md, and where something is wanted at a syntax error. What names m
 meant.py, and the words at a syntax error by `snl_lsp`."""
 import re
 
-from meant import DIGITS, Meanings, piece_at
+from meant import DIGITS, Meanings, Scope, firsts, piece_at
 from notes import distance
 from recogniser import read
 
@@ -142,16 +142,23 @@ class Relations:
         return [it.state_name() for it in self.items if it.set is state_set and it.state_name()]
 
     def visible(self, item, is_flag):
-        """The declarations that an item can name outside its blocks."""
+        """The declarations that an item can name outside its blocks: those of a state are its own,
+        and hide others."""
+        found = {}
+        inner = [it for it in item.scope if isinstance(it, Scope)] if item.kind == "state" else []
+        own = (it for scope in inner for it in scope if not isinstance(it, Scope))
+        found.update(firsts(token for kind, token in own if kind == "declared"))
         for scope in (item.set, None):
             for name, token in self.meanings.declared.get(scope, {}).items():
-                if self.meanings.outside(item, name) is token:
-                    if not is_flag or self.is_flag(token):
-                        yield token
+                found.setdefault(name, token)
+        return [it for it in found.values() if not is_flag or self.is_flag(it)]
 
     def is_flag(self, token):
-        kinds = [it.kind for it in self.items[self.numbers[token.start]].tokens]
-        return "evflag" in kinds[:2]
+        """Whether a name is declared as an event flag: its declaration begins so."""
+        tokens = self.items[self.numbers[token.start]].tokens
+        ends = [at for at, it in enumerate(tokens) if it.start < token.start and it.kind in ";{}"]
+        first = ends[-1] + 1 if ends else 0
+        return "evflag" in [it.kind for it in tokens[first : first + 2]]
 
     def earlier(self, start):
         """The variable of the first sound clause that speaks of the same as the one here."""
