@@ -183,7 +183,7 @@ def wrong_in_forms(program, name, text):
 
 
 def main():
-    number = int(sys.argv[2]) if len(sys.argv) > 2 else 500
+    number = int(sys.argv[2]) if len(sys.argv) > 2 else 100
     chance = random.Random(int(sys.argv[3]) if len(sys.argv) > 3 else 1)
     texts = [it for it in case_texts() if len(it) < LARGEST]
     texts += [some_text(chance) for _ in range(number)]
