@@ -29,7 +29,7 @@ install: all
 	install -d '$(shared)' '$(papers)' '$(manual)' '$(completions)'
 	install -m 755 check '$(library)/check'
 	install -m 644 everyday/*.awk everyday/help.txt everyday/version '$(library)/everyday/'
-	install -m 644 everyday/answers.sh everyday/report.sh everyday/texts.sh '$(library)/everyday/'
+	install -m 644 everyday/answers.sh everyday/reporter.sh everyday/texts.sh '$(library)/everyday/'
 	install -m 644 docs/LANGUAGE.md '$(library)/docs/LANGUAGE.md'
 	install -m 644 everyday/snl-check.1 '$(manual)/snl-check.1'
 	install -m 644 everyday/completion.bash '$(completions)/snl-check'

@@ -38,7 +38,6 @@ build_programs() {
     [ $# = 1 ] && [ "${#words[@]}" = 0 ] || fail "--build goes alone; $usage"
     [ -e "$root/crates.txt" ] || fail "there are no sources here to build: --build is for a clone"
     for target in snl_cli snl_reporter; do
-        take_target "$target"
         built=$root/crates/$target/out/built
         program=$root/crates/$target/out/$target
         . "$parts/build.sh" && bring_up_to_date

@@ -7,6 +7,7 @@ _snl_check() {
     [ "$before" != = ] || before=${COMP_WORDS[COMP_CWORD - 2]}
     case $before in
         --format) choices='github json report sarif text' ;;
+        --color) choices='auto always never' ;;
         --explain | [EW][0-9][0-9])
             # The codes are those that the page on the language explains.
             home=$(readlink -f "$(type -P snl-check)")
@@ -18,7 +19,7 @@ _snl_check() {
             ;;
     esac
     if [ -z "$choices" ] && [[ $word = -* ]]; then
-        choices='--cpp -I -D --lines --list --table --dot --report --plain --format='
+        choices='--cpp -I -D --lines --list --table --dot --report --plain --format= --color='
         choices+=' --strict --quiet --explain --version --build --help --'
     fi
     if [ -n "$choices" ]; then

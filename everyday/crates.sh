@@ -136,7 +136,7 @@ work() {
     cd "$3/crates/$1" || return
     if [ "$1" = "$target" ]; then
         # rt runs the program that it has built: all went well where that ends with status 0.
-        trial | rt run --jobs "$2" ${arguments:+-- "${arguments[@]}"}
+        trial | rt run --jobs "$2" ${trial_words:+-- "${trial_words[@]}"}
     else
         rt check --jobs "$2" && rt lib --jobs "$2"
     fi

@@ -1,13 +1,13 @@
-# Tells what the program answered of each source, a finding a line. A line of its input that begins
+# Tells what the program answered of each source, a finding a line, in the form of a terminal, which
+# editors read: FILE:LINE: CODE TEXT, and the numbers of a file. A line of its input that begins
 # with a byte 1 is no answer (sources.awk).
-# A form (text.awk, github.awk ..) has begin_form, tell_finding, tell_sum and end_form, and the rows
-# of a listing (list.awk, dot.awk, table.awk) have tell_row.
+# The rows of a listing (list.awk, dot.awk, table.awk) have tell_row.
 
 /^\001begin / { begin_source($2); is_answered = is_starved = is_told = 0; next }
 /^\001end / { end_answer($2); next }
 is_answered && $0 == "refused memory" { is_starved = 1; say("check: out of memory"); next }
 is_answered { tell_row($0); next }
-/^errors [0-9]+ warnings [0-9]+$/ { is_answered = 1; warnings = $4; tell_sum($2, $4); next }
+/^errors [0-9]+ warnings [0-9]+$/ { is_answered = 1; warnings = $4; tell_sum($0); next }
 match($0, /: [EW][0-9][0-9] [^:]*$/) {
     take_finding(substr($0, 1, RSTART - 1), substr($0, RSTART + 2))
     next
@@ -34,8 +34,22 @@ function take_finding(place, finding,    at, file) {
     }
     if (at > 1) file = unprinted(file)
     else file = before == "lines" && first_file != "" ? first_file : names[source]
-    tell_finding(file, substr(place, at), substr(finding, 1, 3), substr(finding, 5))
+    put(file ":" substr(place, at) ": " finding)
 }
+
+function begin_form() { return }
+
+function tell_sum(sum) {
+    if (!quiet) put(sum)
+}
+
+# A picture has standard output for itself.
+function put(line) {
+    if (rows == "dot") say(line)
+    else print line
+}
+
+function end_form() { return }
 
 # Says why there is no answer; the name of what is too large is said too, if that is no device.
 function take_fault(line,    name, is_named) {

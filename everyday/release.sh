@@ -45,7 +45,7 @@ unpack() {
     mkdir -p "$apart" 2> /dev/null || { apart=$(mktemp -d) && is_kept=; } || exit 2
     unpack_into "$apart" "$programs"
     . "$parts/trial.sh"
-    trial | "$apart/$programs/$target" "${arguments[@]}" > /dev/null 2>&1 \
+    trial | "$apart/$programs/$target" "${trial_words[@]}" > /dev/null 2>&1 \
         || fail "the program of the release does not run here"
     [ -z "$is_kept" ] && place=$apart || put_in_place
 }

@@ -1,7 +1,7 @@
 # Keeps count of the sources, and gives hints on their texts. Its words are the names to show, then
 # as many texts. A line of its input that begins with a byte 1 is no answer: it says which source
 # comes now, with which status the program ended, or why a source is not checked. What reads the
-# answers (findings.awk, report.awk) calls begin_source and end_source, and has begin_form and
+# answers (findings.awk, reporter.awk) calls begin_source and end_source, and has begin_form and
 # end_form.
 # Settings: command, before (cpp, lines or nothing), quiet, strict, limit, and missed: how many
 # sources were not there to be checked.
@@ -75,7 +75,10 @@ function study(text,    line, lines, name, size) {
         name = printed(substr(file, 2, length(file) - 2))
         if (lines == 1) first_file = unprinted(name)
         if (index(file, "\\")) has_backslash[name]
-        if (flags " " ~ / 3 /) is_of_system[name]
+        if (flags " " ~ / 3 /) {
+            is_of_system[name]
+            is_of_system[substr(file, 2, length(file) - 2)]
+        }
     }
     close(text)
 }

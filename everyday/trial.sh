@@ -1,8 +1,8 @@
-# What builds or unpacks a program runs it once: with these words, and on an input at whose end it
-# has status 0. crates.sh and release.sh read this.
+# What builds or unpacks a program runs it once: with these words (trial_words), and on an input at
+# whose end it has status 0. crates.sh and release.sh read this.
 
-arguments=()
-[ "$target" != snl_reporter ] || arguments=(report)
+trial_words=()
+[ "$target" != snl_reporter ] || trial_words=(report)
 
 trial() {
     local text='program p ss a { state i { when () { } state i } }' body

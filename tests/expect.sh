@@ -49,6 +49,18 @@ have() {
     return 1
 }
 
+# Adds the numbers of the last line of a test, and shows the others.
+count_of() {
+    local last
+    last=$("$@" 2>&1 | tee "$here/told" | tail -n 1)
+    head -n -1 "$here/told"
+    if [[ $last =~ ^([0-9]+)\ passed,\ ([0-9]+)\ failed$ ]]; then
+        passed=$((passed + BASH_REMATCH[1])) failed=$((failed + BASH_REMATCH[2]))
+    else
+        fail "$1: $last"
+    fi
+}
+
 finish() {
     echo "$passed passed, $failed failed"
     [ "$failed" = 0 ]

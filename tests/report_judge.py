@@ -1,9 +1,11 @@
 """A second judge of reports. It says in plain Python what docs/FORMATS.md says of a report: the
-blocks of a text, by what `snl_cli` finds there, and by where `snl_lsp` says that is.
+blocks of a text, by what `snl_cli` finds there, by where `snl_lsp` says that is, and by what
+report_notes.py says of notes.
 
 `snl_lsp` reads UTF-8 alone, and tells 1,000 findings. So it is given a text in which each byte that
 is none is another one that begins no token either: all places stay as they are.
 """
+import bisect
 import json
 import os
 import re
@@ -13,11 +15,14 @@ import unicodedata
 
 sys.path.insert(0, os.path.join(os.path.dirname(os.path.realpath(__file__)), "lsp"))
 # pylint: disable=wrong-import-position
-from protocol import bodies, did_open, frame, initialize, note, request, run
+from protocol import ask, bodies, did_open, frame, initialize, note, request, run
+from report_notes import MOST as MOST_NOTES
+from report_notes import Relations, line_of, markers_of
 
 TAB = 8
 BEFORE, AFTER = 80, 120
 MOST = 1000
+URI = "file:///a"
 CLOSING = {b"/*": b"*/", b"%{": b"}%"}
 FINDING = re.compile(rb"(?:(.*):)?(\d+): ([EW]\d\d) ([^:]*)", re.S)
 MARKED = re.compile(rb'^[ \t]*#[^"\n]*"((?:[^"\\\n]|\\.)*)"', re.M)
@@ -52,17 +57,42 @@ def in_utf8(text):
     return bytes(made)
 
 
+def told(server, text, questions=()):
+    """What `snl_lsp` tells of a text, in which it is asked questions."""
+    begin = [initialize(["utf-8"]), did_open(URI, text.decode())]
+    end = [request(1, "shutdown"), note("exit")]
+    said = bodies(run(server, b"".join(map(frame, [*begin, *questions, *end])))[0])
+    return [json.loads(it) for it in said]
+
+
 def places_of(server, text):
     """Where `snl_lsp` tells its findings: for each the offsets of its ends, and its code."""
     known = in_utf8(text)
-    begin = [initialize(["utf-8"]), did_open("file:///a", known.decode())]
-    end = [request(2, "shutdown"), note("exit")]
-    told = bodies(run(server, b"".join(map(frame, [*begin, *end])))[0])
-    items = next(json.loads(it)["params"]["diagnostics"] for it in told if b"uri" in it)
-    starts = [0] + [it.end() for it in re.finditer(b"\n", known)]
+    said = told(server, known)
+    items = next(it["params"]["diagnostics"] for it in said if "params" in it)
+    starts = line_starts(known)
     ends = ([it["range"][end] for end in ("start", "end")] for it in items)
     places = ([starts[it["line"]] + it["character"] for it in both] for both in ends)
     return [(start, stop, it["code"]) for (start, stop), it in zip(places, items)]
+
+
+def line_starts(text):
+    return [0] + [it.end() for it in re.finditer(b"\n", text)]
+
+
+def wanted_words(server, text, places):
+    """What `snl_lsp` says of the syntax errors among some places: words by offsets."""
+    known = in_utf8(text)
+    starts = line_starts(known)
+    offsets = [start for start, _, code in places if code == "E02"]
+    asked = []
+    for number, offset in enumerate(offsets, 2):
+        line = bisect.bisect(starts, offset) - 1
+        asked.append(ask(number, "hover", URI, line, offset - starts[line]))
+    said = told(server, known, asked) if asked else []
+    answers = {it["id"]: it["result"] for it in said if it.get("id", 0) > 1 and it["result"]}
+    hovers = ((offset, answers.get(number)) for number, offset in enumerate(offsets, 2))
+    return {offset: it["contents"]["value"] for offset, it in hovers if it}
 
 
 # ---- how a line is shown
@@ -139,8 +169,8 @@ def file_shown(printed, text):
     return printed.decode()
 
 
-def block(name, text, finding, place):
-    """What is told of a finding: three lines."""
+def block(name, text, finding, place, note_told):
+    """What is told of a finding: three lines, and three for a note."""
     file, line, code, message = finding
     start, stop, _ = place
     closing = CLOSING.get(text[start : start + 2])
@@ -148,13 +178,49 @@ def block(name, text, finding, place):
         # A comment or C code that nothing ends.
         stop = start + 2
     where = name if file is None else file_shown(file, text)
+    near, more = note_told
+    return three_lines(f"{where}:{line}", text, (start, stop), f"{code} {message}", near) + more
+
+
+def three_lines(where, text, ends, words, near=""):
+    start, stop = ends
+    line = where.rpartition(":")[2]
     column = start - text.rfind(b"\n", 0, start)
     line_shown, marks = excerpt(text, start, stop)
-    gutter = f"{line:5} | "
+    gutter = f"{line:>5} | "
     return (
-        f"{where}:{line}:{column}: {code} {message}\n"
-        f"{gutter}{line_shown}\n{' ' * (len(gutter) - 3)} | {marks}\n"
+        f"{where}:{column}: {words}\n"
+        f"{gutter}{line_shown}\n{' ' * (len(gutter) - 3)} | {marks}{near}\n"
     )
+
+
+class Notes:
+    """What is told of the places that findings are related to."""
+
+    def __init__(self, server, name, text, places):
+        self.name, self.text = name, text
+        self.relations = Relations(text, [(start, code) for start, _, code in places])
+        self.markers = list(markers_of(self.relations.text))
+        self.words = wanted_words(server, text, places[:MOST_NOTES])
+
+    def told(self, place):
+        """What comes after the marks of a finding, and the lines after that."""
+        start, stop, code = place
+        if code == "E02":
+            at = self.relations.wanted(start) if start in self.words else 0
+            return "", self.lines(at, at, self.words[start]) if start in self.words else ""
+        found = self.relations.related(start, stop, code)
+        if not found:
+            return "", ""
+        words, token = found
+        if not words:
+            return f" near: '{token.text}'", ""
+        return "", self.lines(token.start, token.start + len(token.text), words)
+
+    def lines(self, start, stop, words):
+        line, file = line_of(self.relations.text, self.markers, start)
+        where = self.name if file is None else shown(file)[0]
+        return three_lines(f"{where}:{line}", self.text, (start, stop), f"note: {words}")
 
 
 def report_of(programs, name, text):
@@ -163,6 +229,9 @@ def report_of(programs, name, text):
     findings, numbers = findings_of(cli, text)
     places = places_of(server, text)
     assert [it[2] for it in findings[:MOST]] == [it[2] for it in places], (findings, places)
-    told = shown(name)[0]
-    blocks = "".join(block(told, text, *it) for it in zip(findings, places))
-    return f"{blocks}{told}: {numbers.decode()}\n".encode(), list(zip(findings, places))
+    named = shown(name)[0]
+    notes = Notes(server, named, text, places)
+    noted = [notes.told(it) for it in places[:MOST_NOTES]]
+    noted += [("", "")] * (len(places) - len(noted))
+    blocks = "".join(block(named, text, *it) for it in zip(findings, places, noted))
+    return f"{blocks}{named}: {numbers.decode()}\n".encode(), list(zip(findings, places))

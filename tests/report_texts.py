@@ -13,7 +13,7 @@ import sys
 from report_judge import HIDDEN, report_of, width_of
 from mentions import case_texts
 
-HEAD = re.compile(r"(.*):(\d+):(\d+): [EW]\d\d ([^:]*)", re.S)
+HEAD = re.compile(r"(.*):(\d+):(\d+): (?:[EW]\d\d|note:) ([^:]*)", re.S)
 SUM = re.compile(r".*: errors \d+ warnings \d+", re.S)
 TOGETHER = 40
 LARGEST = 200000
@@ -55,6 +55,67 @@ def some_text(chance):
     return b"".join(parts)
 
 
+class Writer:
+    """Writes a program with names that are near each other, and few faults of syntax."""
+
+    NEAR = "level levels levle leve lever lvel flag flags flg fl".split()
+
+    def __init__(self, chance):
+        self.chance = chance
+
+    def name(self):
+        return self.chance.choice(self.NEAR)
+
+    def some(self, most, write):
+        return "".join(write() for _ in range(self.chance.randrange(most + 1)))
+
+    def one_of(self, *forms):
+        """One of these, with names and numbers in it."""
+        form = self.chance.choice(forms)
+        number = self.chance.randrange(4)
+        return re.sub("NAME", lambda _: self.name(), form).replace("N", str(number))
+
+    def part(self):
+        return self.one_of(
+            "int NAME;", "int NAME[3];", "evflag NAME;", "int NAME, NAME;", 'int NAME = NAME;',
+            'assign NAME to "a";', 'assign NAME[N] to "a";', 'assign NAME to {"a", "b"};',
+            'assign NAME {};', "assign NAME;", "monitor NAME;", "monitor NAME[N];",
+            "sync NAME to NAME;", "sync NAME[N] NAME;", "syncq NAME NAME N;", "syncq NAME N;",
+            "foreign NAME;", "int NAME(int NAME) { NAME = NAME; }", "int NAME(int);",
+            "option +w;", "}", "%{ c }%",
+        ) + self.chance.choice(" \n")
+
+    def statement(self):
+        return self.one_of(
+            "NAME = NAME + 1;", "efSet(NAME);", "pvPut(NAME);", "{ int NAME; NAME++; }",
+            "state NAME;", "if (efTest(NAME)) NAME = 1;", "pvGetQ(NAME);",
+        )
+
+    def transition(self):
+        condition = self.one_of("", "NAME", "efTest(NAME)", "NAME > N && NAME", "delay(NAME)")
+        target = self.one_of("state NAME", "state NAME", "exit", "state", "sate NAME")
+        return f"when ({condition}) {{ {self.some(2, self.statement)} }} {target}\n"
+
+    def state(self):
+        own = self.some(1, self.part) if self.chance.random() < 0.3 else ""
+        return f"state {self.name()} {{ {own}{self.some(3, self.transition)}}}\n"
+
+    def state_set(self):
+        end = self.chance.choice(["}", "}", "}", ""])
+        return f"ss {self.name()} {{ {self.some(2, self.part)}{self.some(4, self.state)}{end}\n"
+
+    def marker(self):
+        return self.one_of("", "", '\n# N1 "a.h"\n', "\n#line N7\n", "/* \u00e4\u4e2d */ ")
+
+    def program(self):
+        parts = [self.some(8, self.part), self.some(3, self.state_set), self.some(1, self.part)]
+        return "program p\n" + self.marker().join([*parts, ""])
+
+
+def some_program(chance):
+    return Writer(chance).program().encode()
+
+
 def asked(name, text):
     return b"text %d %d\n%s%s" % (len(name), len(text), name, text)
 
@@ -82,10 +143,11 @@ def wrong_in_block(lines, text):
         return f"no finding: {lines[0]!r}"
     _, line, _, message = found.groups()
     gutter = f"{line:>5} | "
-    marks = re.fullmatch(r" {%d} \| ( *)(\^~*)" % (len(gutter) - 3), lines[2])
+    marks = re.fullmatch(r" {%d} \| ( *)(\^~*)(?: near: '\w+')?" % (len(gutter) - 3), lines[2])
     if not marks or not lines[1].startswith(gutter):
         return f"no line with marks: {lines}"
-    quoted = message.partition("'")[2][:-1]
+    # What is wanted somewhere quotes words.
+    quoted = "" if message.startswith("expected") else message.partition("'")[2][:-1]
     start = len(marks[1])
     above = at_columns(lines[1][len(gutter) :], start, start + len(marks[2]))
     is_cut = lines[1].endswith("..") and quoted.startswith(above)
@@ -137,6 +199,7 @@ def main():
     chance = random.Random(int(sys.argv[5]) if len(sys.argv) > 5 else 1)
     texts = [it for it in case_texts() if len(it) < LARGEST]
     texts += [some_text(chance) for _ in range(number)]
+    texts += [some_program(chance) for _ in range(number)]
     named = [(chance.choice(NAMES), text) for text in texts]
     passed = failed = 0
     for at in range(0, len(named), TOGETHER):

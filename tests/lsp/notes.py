@@ -88,7 +88,7 @@ def distance(one, other):
         row = [i]
         for j, b in enumerate(other, 1):
             least = min(rows[-1][j] + 1, row[-1] + 1, rows[-1][j - 1] + (a != b))
-            if i > 1 and j > 1 and a != b and one[i - 2 : i] == b + a:
+            if i > 1 and j > 1 and one[i - 2 : i] == other[j - 2 : j][::-1]:
                 least = min(least, rows[-2][j - 2] + 1)
             row.append(least)
         rows.append(row)

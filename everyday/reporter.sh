@@ -1,8 +1,21 @@
-# Has one process report on all texts. ./check reads this where a report is asked for. What the
-# program reads is for each text a line with the lengths of name and text, the name, and the text.
+# Has one process tell what is found in all texts, in the form that is asked for. ./check reads this
+# for each form but lines. What the program reads is for each text a line with the lengths of name
+# and text, the name, and the text.
 
 # A text of at most so many bytes is read by the shell, which starts no process for it.
 small=65536
+
+# Whether a report is to have colours.
+has_colors() {
+    case $color in
+        always) return 0 ;;
+        never) return 1 ;;
+    esac
+    [ -t 1 ] && [ -z "${NO_COLOR-}" ] && [ "${TERM:-dumb}" != dumb ]
+}
+
+arguments=("$form")
+[ "$form" != report ] || ! has_colors || arguments+=(color)
 
 report_all() {
     local number sent=() bodies=() sizes=()
@@ -14,7 +27,7 @@ report_all() {
 }
 
 # Has the program report on what is sent to it. What it says of a fault is told among the reports,
-# so not where nobody reads these any more.
+# so not where nobody reads these any more. A line that broke off ends before that.
 run_program() {
     local chosen=${GLIBC_TUNABLES-$tunables} input faults line status
     exec {faults}<> <(:)
@@ -26,11 +39,16 @@ run_program() {
     exec {input}>&-
     wait $!
     status=$?
+    end_line
     while read -t 0 -u "$faults" && IFS= read -r -t 1 -u "$faults" line; do
         mark fault "$line"
     done
     mark end "$status"
 }
+
+end_line() {
+    echo
+} 2> /dev/null
 
 # Takes in a text, by its number: a small one as it is, and another one in a copy, which stays as it
 # is while it is sent. A byte 0 is nothing that the shell can hold.
