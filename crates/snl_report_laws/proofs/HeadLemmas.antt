@@ -1,18 +1,17 @@
 -- The first line of a finding, by the line that `check` prints.
-use Rattle.std.proofs.Common.{◌≡◌, ℕ, ◌<◌, ◌≤◌, List, [], ◌∷◌, ◌++◌, length, Option, Some, None, refl, sym, ap, ◌∙◌, append_assoc, arith, codes}
+use Rattle.std.proofs.Common.{◌≡◌, ℕ, ◌<◌, List, [], ◌∷◌, ◌++◌, length, Option, None, refl, sym, ap, ◌∙◌, append_assoc, arith, codes}
 use Rattle.std.specs.Prelude.{All, decimal, encode_utf8_all}
 use Rattle.std.specs.List.{concat}
-use Rattle.std.specs.Str.{IsAscii}
 use Rattle.std.proofs.lemmas.List.{append-nil}
 use Rattle.std.proofs.lemmas.List.Elements.{All-head, All-tail}
 use Rattle.std.proofs.lemmas.Str.{encode_ascii}
-use Rattle.snl_excerpt.specs.Lines.{at_start, shown, shown_bytes}
+use Rattle.snl_excerpt.specs.Lines.{shown, shown_bytes}
 use Rattle.snl_excerpt.specs.Safe.{IsPrintable}
 use Rattle.snl_kept.specs.declared.found.findings.Diagnostic.{Diagnostic}
 use Rattle.snl_kept.specs.Diagnostics.{message_of, name_of}
 use Rattle.snl_report.specs.declared.paint.Paint.TheVariants.{Plain}
 use Rattle.snl_report.specs.Paints.{off, on}
-use Rattle.snl_report.specs.Heads.{finding_text, head_text, name_shown, place_text, quoted_shown}
+use Rattle.snl_report.specs.Heads.{finding_text, head_text, name_shown, quoted_shown}
 use Rattle.snl_report_laws.specs.Columns.{IsLineWithColumn}
 use Rattle.snl_run.specs.Answers.{line_text}
 use Rattle.snl_script.specs.Parts.{file_text, quoted, slice_of}
@@ -44,8 +43,12 @@ rest_of text d = codes ": " ++ (name_of d.code ++ (codes " " ++ (message_of d.co
 line_parts : (file number name message q : List ℕ) → file ≡ [] → concat (file ∷ concat (number ∷ codes ": " ∷ name ∷ codes " " ∷ message ∷ []) ∷ q ∷ codes "\n" ∷ []) ≡ number ++ (codes ": " ++ (name ++ (codes " " ++ (message ++ (q ++ codes "\n")))))
 line_parts file number name message q h = rw h (simp (append_assoc, append-nil))
 
+place_on : (a number column b rest : List ℕ) → (a ++ (number ++ (a ++ (column ++ b)))) ++ rest ≡ a ++ (number ++ (a ++ (column ++ (b ++ rest))))
+place_on a number column b rest = simp append_assoc
+
 head_parts : (shown_name name number column code message q q_shown : List ℕ) → shown_name ≡ name → q_shown ≡ q → shown_name ++ ((codes ":" ++ (number ++ (codes ":" ++ (column ++ codes ": ")))) ++ (code ++ (codes " " ++ (message ++ (q_shown ++ codes "\n"))))) ≡ name ++ (codes ":" ++ (number ++ (codes ":" ++ (column ++ (codes ": " ++ (code ++ (codes " " ++ (message ++ (q ++ codes "\n")))))))))
-head_parts shown_name name number column code message q q_shown n s = rw (n, s) (simp append_assoc)
+head_parts shown_name name number column code message q q_shown n s =
+    rw (n, s) (ap (λ (l : List ℕ). name ++ l) (place_on (codes ":") number column (codes ": ") (code ++ (codes " " ++ (message ++ (q ++ codes "\n"))))))
 
 no_file : (text : List ℕ) (file : Option (ℕ × ℕ)) → file ≡ None → file_text text file ≡ []
 no_file text file h = ap (file_text text) h
