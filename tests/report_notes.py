@@ -25,7 +25,7 @@ MARKER = re.compile(
 
 
 def markers_of(text):
-    """The line markers: from which offset on each counts, its number, and its file, if it has one."""
+    """The line markers: from which offset on each counts, its number, and its file, if any."""
     at = 0
     while at < len(text):
         _, stop = piece_at(text, at)
