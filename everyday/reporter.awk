@@ -1,5 +1,5 @@
-# Reads what the program tells in one of the forms that it makes, and counts by the last line of each
-# text, NAME: errors E warnings W. Before these lines come the numbers of the sources that are
+# Reads what the program tells in one of the forms that it makes, and counts by the last line of
+# each text, NAME: errors E warnings W. Before these lines come the numbers of the sources that are
 # reported on; after them an empty line, what the program said of a fault, and its status.
 # A form (report.awk, json.awk ..) has begin_form, tell_line, tell_sum, tell_part and end_form, and
 # calls count_finding.

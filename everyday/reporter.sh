@@ -18,10 +18,11 @@ arguments=("$form")
 [ "$form" != report ] || ! has_colors || arguments+=(color)
 
 report_all() {
-    local number sent=() bodies=() sizes=()
+    local number sent=() named=() bodies=() sizes=()
     for number in "${!names[@]}"; do
         [ "${texts[number]}" = "${files[number]}" ] || make_text "$number" || continue
-        take_text "$number" && sent+=("$number") && mark send $((number + 1))
+        take_text "$number" && name_text "$number" && sent+=("$number") \
+            && mark send $((number + 1))
     done
     [ "${#sent[@]}" = 0 ] || run_program
 }
@@ -81,11 +82,22 @@ copy_text() {
     return 1
 }
 
+# Names a text. With --lines what is found at its first byte has the name that its first line gives
+# to the source; but a report ends with the name of the text.
+name_text() {
+    local LC_ALL=C first=''
+    local marker='^#[[:blank:]]*(line[[:blank:]]+)?[0-9]+[[:blank:]]+"(([^"\\]|\\.)+)"'
+    named[$1]=${names[$1]}
+    [ "$before" = lines ] && [ "$form" != report ] || return 0
+    IFS= read -r first < "${texts[$1]}"
+    [[ ! $first =~ $marker ]] || named[$1]=${BASH_REMATCH[2]}
+} 2> /dev/null
+
 # Writes all that the program reads.
 send() {
     local LC_ALL=C number
     for number in "${sent[@]}"; do
-        printf 'text %d %d\n%s' "${#names[number]}" "${sizes[number]}" "${names[number]}"
+        printf 'text %d %d\n%s' "${#named[number]}" "${sizes[number]}" "${named[number]}"
         if [ -n "${bodies[number]+small}" ]; then
             printf %s "${bodies[number]}"
         else

@@ -1,6 +1,6 @@
-"""What the second judge says of notes: the place that a finding is related to, by the rules in words
-of docs/PROVED.md, and where something is wanted at a syntax error. What names mean is said by
-meant.py, and the words at a syntax error by `snl_lsp`."""
+"""What the second judge says of notes: the place that a finding is related to, by the rules in
+words of docs/PROVED.md, and where something is wanted at a syntax error. What names mean is said
+by meant.py, and the words at a syntax error by `snl_lsp`."""
 import re
 
 from meant import DIGITS, Meanings, Scope, firsts, piece_at
@@ -25,7 +25,7 @@ MARKER = re.compile(
 
 
 def markers_of(text):
-    """The line markers: the offset from which on each counts, its number and its file, if it has."""
+    """The line markers: from which offset on each counts, its number, and its file, if any."""
     at = 0
     while at < len(text):
         _, stop = piece_at(text, at)
@@ -105,7 +105,8 @@ class Relations:
         self.items = self.meanings.items
         self.numbers = {it.start: at for at, item in enumerate(self.items) for it in item.tokens}
         prototypes = {it.prototype for it in self.items if it.prototype}
-        self.declared = {it.start: meant for it, meant in self.meanings.pairs if it not in prototypes}
+        pairs = self.meanings.pairs
+        self.declared = {it.start: meant for it, meant in pairs if it not in prototypes}
         self.unsound = {start for start, code in found if code in UNSOUND}
         self.no_flags = {start for start, code in found if code == "E14"}
         self.clauses = list(clauses_of(self.items))

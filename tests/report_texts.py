@@ -3,7 +3,8 @@
 and random ones, many of them to one process; and looks at each report by itself: what is quoted
 stands above the marks, and nothing in it is a command to a terminal.
 
-Usage: tests/report_texts.py REPORTER CLI SERVER [NUMBER [SEED]]    as many random texts
+Usage: tests/report_texts.py REPORTER CLI SERVER [NUMBER [SEED]]    as many random texts of each of
+two kinds
 """
 import random
 import re
@@ -195,7 +196,7 @@ def compared(programs, texts):
 
 def main():
     programs = sys.argv[1:4]
-    number = int(sys.argv[4]) if len(sys.argv) > 4 else 1000
+    number = int(sys.argv[4]) if len(sys.argv) > 4 else 500
     chance = random.Random(int(sys.argv[5]) if len(sys.argv) > 5 else 1)
     texts = [it for it in case_texts() if len(it) < LARGEST]
     texts += [some_text(chance) for _ in range(number)]
