@@ -5,13 +5,13 @@
 # A text of at most so many bytes is read by the shell, which starts no process for it.
 small=65536
 
-# Whether a report is to have colours.
+# Whether a report is to have colours. Emacs reads the output of a compilation as it is.
 has_colors() {
     case $color in
         always) return 0 ;;
         never) return 1 ;;
     esac
-    [ -t 1 ] && [ -z "${NO_COLOR-}" ] && [ "${TERM:-dumb}" != dumb ]
+    [ -t 1 ] && [ -z "${NO_COLOR-}${INSIDE_EMACS-}" ] && [ "${TERM:-dumb}" != dumb ]
 }
 
 arguments=("$form")
