@@ -1,12 +1,13 @@
 # make install PREFIX=/usr/local  puts the checker and the language server in place, with DESTDIR=FOLDER
 #                                 for a package. The programs are those that are built here, and else
-#                                 those of the release; SNL_CLI and SNL_LSP name others
+#                                 those of the release; SNL_CLI, SNL_REPORTER and SNL_LSP name others
 # make uninstall                  takes them away
 # make deb                        packs the release as a Debian package
 # make release                    makes the release anew, of the programs that are proved and built here
 PREFIX ?= /usr/local
 DESTDIR ?=
 SNL_CLI ?=
+SNL_REPORTER ?=
 SNL_LSP ?=
 top = $(DESTDIR)$(PREFIX)
 library = $(top)/lib/snl-check
@@ -20,15 +21,15 @@ completions = $(top)/share/bash-completion/completions
 # The program is taken from the release or built again, where that is to be done, by the check of a
 # text without errors.
 all:
-	@echo 'program p ss a { state i { when () { } state i } }' | SNL_CLI='$(SNL_CLI)' ./check --quiet -
+	@echo 'program p ss a { state i { when () { } state i } }' | SNL_CLI='$(SNL_CLI)' ./check --plain --quiet -
 
-# Of a server that is named and not there nothing is installed.
+# Of a program for reports or a server that is named and not there nothing is installed.
 install: all
 	install -d '$(top)/bin' '$(library)/everyday' '$(library)/docs'
 	install -d '$(shared)' '$(papers)' '$(manual)' '$(completions)'
 	install -m 755 check '$(library)/check'
 	install -m 644 everyday/*.awk everyday/help.txt everyday/version '$(library)/everyday/'
-	install -m 644 everyday/answers.sh everyday/texts.sh '$(library)/everyday/'
+	install -m 644 everyday/answers.sh everyday/reporter.sh everyday/texts.sh '$(library)/everyday/'
 	install -m 644 docs/LANGUAGE.md '$(library)/docs/LANGUAGE.md'
 	install -m 644 everyday/snl-check.1 '$(manual)/snl-check.1'
 	install -m 644 everyday/completion.bash '$(completions)/snl-check'
@@ -41,6 +42,11 @@ else
 	install -m 755 '$(SNL_CLI)' '$(library)/snl_cli'
 endif
 	ln -sf ../lib/snl-check/check '$(top)/bin/snl-check'
+ifeq ($(SNL_REPORTER),)
+	everyday/put_program snl_reporter '$(library)/snl_reporter'
+else
+	[ ! -x '$(SNL_REPORTER)' ] || install -m 755 '$(SNL_REPORTER)' '$(library)/snl_reporter'
+endif
 ifeq ($(SNL_LSP),)
 	everyday/put_program snl_lsp '$(library)/snl_lsp'
 else

@@ -36,17 +36,6 @@ tell_version() {
     echo "snl-lsp $version, with the program ${sum:0:12}"
 }
 
-frame() {
-    printf 'Content-Length: %d\r\n\r\n%s' "${#1}" "$1"
-}
-
-# A talk at whose end the server has status 0: what builds or unpacks it runs it once.
-trial() {
-    frame '{"id":1,"method":"initialize"}'
-    frame '{"id":2,"method":"shutdown"}'
-    frame '{"method":"exit"}'
-}
-
 here=${BASH_SOURCE[0]}
 [ ! -L "$here" ] || here=$(readlink -f "$here")
 root=${here%/*}

@@ -4,7 +4,7 @@ answer() {
     case $1 in
         --help) tell_help ;;
         --version) tell_version ;;
-        --build) build_program "$@" ;;
+        --build) build_programs "$@" ;;
         --explain) explain "${@:2}" ;;
         --explain=*) explain "${1#*=}" "${@:2}" ;;
     esac
@@ -33,14 +33,17 @@ tell_version() {
     echo "snl-check $version, with the program ${sum:0:12}"
 }
 
-# Proves and builds the program of a clone.
-build_program() {
+# Proves and builds the programs of a clone, one after the other.
+build_programs() {
     [ $# = 1 ] && [ "${#words[@]}" = 0 ] || fail "--build goes alone; $usage"
     [ -e "$root/crates.txt" ] || fail "there are no sources here to build: --build is for a clone"
-    program=$root/crates/$target/out/$target
-    built=$root/crates/$target/out/built
-    . "$parts/build.sh" && bring_up_to_date
-    say "built: $program"
+    for target in snl_cli snl_reporter; do
+        built=$root/crates/$target/out/built
+        program=$root/crates/$target/out/$target
+        . "$parts/build.sh" && bring_up_to_date
+        say "built: $program"
+        build_time="ten minutes, with the other program built,"
+    done
 }
 
 # Prints what the tables of docs/LANGUAGE.md say of codes.

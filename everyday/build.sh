@@ -8,6 +8,7 @@ binary=crates/$target/out/$target
 
 bring_up_to_date() {
     read_crates
+    built_on=()
     find_built_on "$target"
     # Proofs are no part of this: whatever becomes of them, a program that was proved stays proved.
     find_folders src specs
@@ -15,7 +16,6 @@ bring_up_to_date() {
     is_same && return
     take_lock
     is_same || { . "$parts/crates.sh" && build; }
-    exec {lock}>&-
 }
 
 # Whether program and sources have the bytes that they had when it was built, as after a copy of
@@ -48,11 +48,16 @@ note() {
     printf '%s\n' "$2" > "$built/$1.$$" && mv "$built/$1.$$" "$built/$1"
 }
 
-# Waits while another build is under way, of whichever program.
+# Waits while another build is under way, of whichever program, unless that was done before.
 take_lock() {
+    [ -z "${lock-}" ] || return 0
     mkdir -p "$root/crates/snl_cli/out" && exec {lock}> "$root/crates/snl_cli/out/lock" || exit 2
     command -v flock > /dev/null || return 0
     flock -n "$lock" && return
     say "another build is under way, and this one waits for it"
     flock "$lock"
+}
+
+leave_lock() {
+    [ -z "${lock-}" ] || exec {lock}>&-
 }

@@ -6,7 +6,8 @@ _snl_check() {
     [ "$word" != = ] || word=''
     [ "$before" != = ] || before=${COMP_WORDS[COMP_CWORD - 2]}
     case $before in
-        --format) choices='github json sarif text' ;;
+        --format) choices='github json report sarif text' ;;
+        --color) choices='auto always never' ;;
         --explain | [EW][0-9][0-9])
             # The codes are those that the page on the language explains.
             home=$(readlink -f "$(type -P snl-check)")
@@ -18,8 +19,8 @@ _snl_check() {
             ;;
     esac
     if [ -z "$choices" ] && [[ $word = -* ]]; then
-        choices='--cpp -I -D --lines --list --table --dot --format= --strict --quiet --explain'
-        choices+=' --version --build --help --'
+        choices='--cpp -I -D --lines --list --table --dot --report --plain --format= --color='
+        choices+=' --strict --quiet --explain --version --build --help --'
     fi
     if [ -n "$choices" ]; then
         mapfile -t COMPREPLY < <(compgen -W "$choices" -- "$word")

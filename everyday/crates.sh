@@ -1,6 +1,8 @@
 # Proves the crates that a program is built on, and builds it. Crates that do not wait for each
 # other are proved side by side. What is proved is kept in crates/*/out. build.sh reads this.
 
+. "$parts/trial.sh"
+
 # How long the first build takes, from a fresh clone.
 build_time=${build_time:-"an hour by the clock on four processors"}
 
@@ -134,7 +136,7 @@ work() {
     cd "$3/crates/$1" || return
     if [ "$1" = "$target" ]; then
         # rt runs the program that it has built: all went well where that ends with status 0.
-        trial | rt run --jobs "$2"
+        trial | rt run --jobs "$2" ${trial_words:+-- "${trial_words[@]}"}
     else
         rt check --jobs "$2" && rt lib --jobs "$2"
     fi

@@ -1,12 +1,15 @@
-# The form of annotations on GitHub: ::error file=FILE,line=LINE,title=CODE::TEXT
+# The form of annotations on GitHub, which are lines.
 
 function begin_form() { return }
 
-function tell_finding(file, line, code, message) {
-    print "::" level_of(code) " file=" percented(in_utf8(file), "[%\r\n:,]") ",line=" line \
-        ",title=" code "::" percented(message, "[%\r\n]")
+function tell_line(line) {
+    print line
+    match(line, / file=[^,]*/)
+    count_finding(unpercented(substr(line, RSTART + 6, RLENGTH - 6)))
 }
 
-function tell_sum(errors, warnings) { return }
+function tell_sum(line) { return }
+
+function tell_part(line) { return }
 
 function end_form() { return }

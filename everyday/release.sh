@@ -39,13 +39,21 @@ is_for_this_machine() {
 # side. Where the clone cannot be written, that is a temporary folder, which goes at the end.
 unpack() {
     local is_kept=1
+    has_target || fail "release $(version_of "$folder") has no $target; $build_it"
     trap 'rm -rf "${room:-}" "${apart:-}"' EXIT
     apart=$place.$$
     mkdir -p "$apart" 2> /dev/null || { apart=$(mktemp -d) && is_kept=; } || exit 2
-    unpack_into "$apart" "$programs/snl_cli" "$programs/snl_lsp"
-    trial | "$apart/$programs/$target" > /dev/null 2>&1 \
+    unpack_into "$apart" "$programs"
+    . "$parts/trial.sh"
+    trial | "$apart/$programs/$target" "${trial_words[@]}" > /dev/null 2>&1 \
         || fail "the program of the release does not run here"
     [ -z "$is_kept" ] && place=$apart || put_in_place
+}
+
+# Whether the release has the program: the first one has none for reports.
+has_target() {
+    [ ! -e "$root/release/built_of" ] \
+        || [[ $(< "$root/release/built_of")$'\n' = *"lib/snl-check/$target"$'\n'* ]]
 }
 
 # Unpacks the archive, or the named parts of it, into the folder $1.

@@ -1,36 +1,41 @@
-# The form of SARIF 2.1.0: one document, with a result for each finding and a rule for each code.
+# The form of SARIF 2.1.0: one document of all results, with a rule for each code that they have.
 
 function begin_form() {
     print "{\"$schema\": \"https://json.schemastore.org/sarif-2.1.0.json\", \"version\": \"2.1.0\","
-    print "\"runs\": [{\"results\": ["
+    print "\"runs\": [{\"columnKind\": \"unicodeCodePoints\", \"results\": ["
 }
 
-function tell_finding(file, line, code, message,    rule) {
-    rule = message
-    sub(/ '[^']*'$/, "", rule)
-    if (!(code in rules)) in_turn[++codes_seen] = code
-    rules[code] = rule
+function tell_line(result,    code) {
     print results++ ? "," : ""
-    printf "%s", "{\"ruleId\": \"" code "\", \"level\": \"" level_of(code) "\", \"message\": " \
-        text_of(message) ", \"locations\": [{\"physicalLocation\": {" \
-        "\"artifactLocation\": {\"uri\": " json_string(uri_of(file)) "}" \
-        (line > 0 ? ", \"region\": {\"startLine\": " line "}" : "") "}}]}"
+    printf "%s", result
+    code = substr(result, 13, 3)
+    if (!(code in rules)) in_turn[++codes_seen] = code
+    rules[code] = rule_of(result)
+    match(result, /"uri": "[^"]*"/)
+    count_finding(file_of(substr(result, RSTART + 8, RLENGTH - 9)))
 }
 
-function text_of(text) {
-    return "{\"text\": " json_string(text) "}"
+# What a code says, without what is quoted.
+function rule_of(result) {
+    match(result, /"text": "[^"]*"/)
+    result = substr(result, RSTART + 9, RLENGTH - 10)
+    sub(/ '.*/, "", result)
+    return result
 }
 
-function uri_of(file) {
-    return (file ~ /^\// ? "file://" : "") percented(file, "[^A-Za-z0-9._~/-]")
+function file_of(reference) {
+    sub(/^file:\/\//, "", reference)
+    return unpercented(reference)
 }
 
-function tell_sum(errors, warnings) { return }
+function tell_sum(line) { return }
+
+function tell_part(line) { return }
 
 function end_form(    i) {
     print "], \"tool\": {\"driver\": {\"name\": \"snl-check\", \"rules\": ["
     for (i = 1; i <= codes_seen; i++)
-        print "{\"id\": \"" in_turn[i] "\", \"shortDescription\": " text_of(rules[in_turn[i]]) "}" \
-            (i < codes_seen ? "," : "")
+        print "{\"id\": \"" in_turn[i] "\", \"shortDescription\": {\"text\": \"" \
+            rules[in_turn[i]] "\"}}" (i < codes_seen ? "," : "")
     print "]}}}]}"
 }

@@ -39,11 +39,12 @@ sums_of() {
     cd "$root" && find "$@" -type f -print0 | LC_ALL=C sort -z | xargs -0r sha256sum
 }
 
-# Puts what a release is made of into folders: the sources and proofs of both programs.
+# Puts what a release is made of into folders: the sources and proofs of its programs.
 find_released() {
     read_crates
     built_on=()
     find_built_on snl_cli
+    find_built_on snl_reporter
     find_built_on snl_lsp
     find_folders src specs proofs
 }

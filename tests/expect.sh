@@ -36,11 +36,29 @@ expect() {
     fi
 }
 
+# Runs a command on a terminal; its lines end with LF here.
+terminal() {
+    script -qec "$(printf '%q ' "$@")" /dev/null < /dev/null | tr -d '\r'
+    return "${PIPESTATUS[0]}"
+}
+
 # Whether a program is there; what cannot be tried without it is told.
 have() {
     command -v "$1" > /dev/null && return
     echo "not installed: $1"
     return 1
+}
+
+# Adds the numbers of the last line of a test, and shows the others.
+count_of() {
+    local last
+    last=$("$@" 2>&1 | tee "$here/told" | tail -n 1)
+    head -n -1 "$here/told"
+    if [[ $last =~ ^([0-9]+)\ passed,\ ([0-9]+)\ failed$ ]]; then
+        passed=$((passed + BASH_REMATCH[1])) failed=$((failed + BASH_REMATCH[2]))
+    else
+        fail "$1: $last"
+    fi
 }
 
 finish() {

@@ -20,21 +20,38 @@
 
 ;; Error or warning is told by the group that is there.
 (add-to-list 'compilation-error-regexp-alist-alist
-             '(snl-check "^\\(.+\\):\\([0-9]+\\): \\(?:E\\|\\(W\\)\\)[0-9][0-9] [^:\n]*$"
-                         1 2 nil (3)))
+             '(snl-check
+               "^\\(.+?\\):\\([0-9]+\\):\\(?:\\([0-9]+\\):\\)? \\(?:E\\|\\(W\\)\\)[0-9]\\{2\\} [^:\n]*$"
+               1 2 3 (4)))
 (add-to-list 'compilation-error-regexp-alist 'snl-check)
 
 (defvar-local snl-check--process nil "The check of this buffer that is under way.")
 
+(defun snl-check--region (source line column)
+  "Return the region of what is at LINE of the buffer SOURCE.
+COLUMN counts the bytes of the line; without it the region is the line."
+  (with-current-buffer source
+    (save-restriction
+      (widen)
+      (save-excursion
+        (goto-char (point-min))
+        (forward-line (1- line))
+        (let* ((first (point))
+               (place (and column (byte-to-position (+ (position-bytes first) column -1)))))
+          (flymake-diag-region source line (and place (1+ (- place first)))))))))
+
 (defun snl-check--diagnostics (source)
-  "Return what the check in this buffer found at lines of the buffer SOURCE."
+  "Return what the check in this buffer found in the buffer SOURCE."
   (goto-char (point-min))
   (let (found)
-    (while (re-search-forward "^<stdin>:\\([0-9]+\\): \\(\\([EW]\\)[0-9][0-9] .*\\)$" nil t)
-      (let ((region (flymake-diag-region source (string-to-number (match-string 1))))
-            (type (if (equal (match-string 3) "E") :error :warning)))
-        (push (flymake-make-diagnostic source (car region) (cdr region) type (match-string 2))
-              found)))
+    (while (re-search-forward
+            "^<stdin>:\\([0-9]+\\):\\(?:\\([0-9]+\\):\\)? \\(\\([EW]\\)[0-9][0-9] .*\\)$" nil t)
+      (let* ((line (string-to-number (match-string 1)))
+             (column (and (match-string 2) (string-to-number (match-string 2))))
+             (type (if (equal (match-string 4) "E") :error :warning))
+             (text (match-string 3))
+             (region (snl-check--region source line column)))
+        (push (flymake-make-diagnostic source (car region) (cdr region) type text) found)))
     found))
 
 (defun snl-check--ended (process source report)
@@ -55,12 +72,15 @@ It is one of `flymake-diagnostic-functions'."
   (when (process-live-p snl-check--process)
     (kill-process snl-check--process))
   (let ((source (current-buffer))
-        (words (and buffer-file-name (string-suffix-p ".st" buffer-file-name) '("--cpp"))))
+        ;; After the preprocessor columns are not those of the file.
+        (word (if (and buffer-file-name (string-suffix-p ".st" buffer-file-name))
+                  "--cpp"
+                "--report")))
     (setq snl-check--process
           (make-process
            :name "snl-check" :noquery t :connection-type 'pipe
            :buffer (generate-new-buffer " *snl-check*")
-           :command `(,snl-check-command "--quiet" ,@words "-")
+           :command (list snl-check-command "--quiet" word "-")
            :sentinel (lambda (process _) (snl-check--ended process source report))))
     (save-restriction
       (widen)
@@ -81,6 +101,8 @@ It is one of `flymake-diagnostic-functions'."
                  (goto-char (point-min))
                  (re-search-forward "^[ \t]*\\(?:\\(?:program\\|ss\\)[ \t]+[a-zA-Z_]\\|%[%{]\\)"
                                     nil t)))
+      ;; Columns of findings count bytes, and so no columns of the screen.
+      (setq-local compilation-error-screen-columns nil)
       (snl-check-flymake))))
 
 (provide 'snl-check)

@@ -1,9 +1,11 @@
 """What is asked of a document: what is wrong with an outline, a definition or a hover, by the text
-of the document, its words and its listing."""
+of the document, its words and its listing; and with references, by a second judge of what names
+mean."""
 import re
 from typing import Callable, NamedTuple
 
-from texts import offset_of
+from meant import mentions_of
+from texts import offset_of, place_of
 
 # The kinds of the protocol: a package, a namespace, a class, a variable, an event, a function.
 PROGRAM, STATE_SET, STATE, VARIABLE, EVENT_FLAG, FUNCTION = 4, 3, 5, 13, 24, 12
@@ -30,7 +32,17 @@ def wrong_in_definition(result, asked, is_utf8):
 def wrong_in_hover(result, asked, is_utf8):
     if result is None:
         return ""
-    return wrong_in_contents(result) or wrong_in_range(result["range"], asked, is_utf8)
+    if wrong := wrong_in_contents(result):
+        return wrong
+    judge = wrong_in_place if is_note(result) else wrong_in_range
+    return judge(result["range"], asked, is_utf8)
+
+
+def wrong_in_place(between, asked, is_utf8):
+    """What is wrong with a range that is to be of a token that the cursor is on."""
+    start, stop = offsets_of(asked["text"], between, is_utf8)
+    at = offset_of(asked["text"], *asked["place"], is_utf8)
+    return "" if start <= at <= stop else f"{start} to {stop} for a cursor at {at}"
 
 
 def wrong_in_range(between, asked, is_utf8):
@@ -56,6 +68,55 @@ def words_near(text, offset):
     return {it.group() for it in WORD.finditer(text) if it.start() <= offset <= it.end()}
 
 
+# ---- references
+
+
+def references_of(text, offset):
+    """The references of the name near an offset: where each begins and stops, and whether the name
+    is declared there. There are none where the name means nothing."""
+    meant = mentions_of(text)
+    spans = {start: WORD.match(text, start).span() for start in meant}
+    for at in (offset, offset - 1):
+        for start, (_, stop) in spans.items():
+            if start <= at < stop:
+                same = sorted(it for it in meant if meant[it] == meant[start])
+                return [(*spans[it], it == meant[it]) for it in same]
+    return []
+
+
+def range_of(text, start, stop, is_utf8):
+    """The range between two offsets."""
+    ends = {"start": place_of(text, start, is_utf8), "end": place_of(text, stop, is_utf8)}
+    return {name: {"line": it[0], "character": it[1]} for name, it in ends.items()}
+
+
+def ranges_wanted(asked, is_utf8, includes_declaration=True):
+    """The ranges of the references of the name at a place; none where it means nothing."""
+    text = asked["text"]
+    found = references_of(text, offset_of(text, *asked["place"], is_utf8))
+    if not found:
+        return None
+    return [
+        range_of(text, start, stop, is_utf8)
+        for start, stop, is_declaration in found
+        if includes_declaration or not is_declaration
+    ]
+
+
+def wrong_in_references(result, asked, is_utf8):
+    wanted = ranges_wanted(asked, is_utf8, asked["includes"])
+    if wanted is not None:
+        wanted = [{"range": it, "uri": asked["uri"]} for it in wanted]
+    return "" if result == wanted else f"the references {result} in place of {wanted}"
+
+
+def wrong_in_highlights(result, asked, is_utf8):
+    wanted = ranges_wanted(asked, is_utf8)
+    if wanted is not None:
+        wanted = [{"range": it} for it in wanted]
+    return "" if result == wanted else f"the highlights {result} in place of {wanted}"
+
+
 # ---- hovers
 
 
@@ -65,6 +126,11 @@ def wrong_in_contents(result):
         return f"no hover: {result}"
     is_right = contents["kind"] == "plaintext" and contents["value"]
     return "" if is_right else f"no plain text: {contents}"
+
+
+def is_note(result):
+    """Whether a hover says what may come at a token at fault."""
+    return result["contents"]["value"].startswith(("expected ", "nothing may come here "))
 
 
 def line_of(text, offset):
@@ -168,15 +234,21 @@ def names_listed(rows):
 
 class Method(NamedTuple):
     """A request on a document: as what the answer to `initialize` offers it, whether it asks of a
-    place, and what is wrong with the answer, by its result, what was asked and the encoding."""
+    place, what is wrong with the answer, by its result, what was asked and the encoding, and
+    whether it tells if a declaration is asked for too."""
 
     provider: str
     is_of_place: bool
     wrong_in: Callable
+    has_context: bool = False
 
 
 METHODS = {
     "textDocument/documentSymbol": Method("documentSymbolProvider", False, wrong_in_symbols),
     "textDocument/definition": Method("definitionProvider", True, wrong_in_definition),
     "textDocument/hover": Method("hoverProvider", True, wrong_in_hover),
+    "textDocument/references": Method("referencesProvider", True, wrong_in_references, True),
+    "textDocument/documentHighlight": Method(
+        "documentHighlightProvider", True, wrong_in_highlights
+    ),
 }

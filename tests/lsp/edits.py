@@ -1,7 +1,8 @@
 """Random edits: texts that a seed defines are changed, with places in either encoding, several in a
 message, past the ends of lines and texts and within characters. After each message the publish has
 to be what `snl_cli` finds in the text that the protocol's rules make here. After some, an outline
-has to have the names of the listing that `snl_cli` gives, and a definition the bytes of its name.
+has to have the names of the listing that `snl_cli` gives, a definition the bytes of its name, and
+references and highlights have to be those of a second judge (meant.py).
 
 Usage: edits.py SERVER CLI NUMBER SEED    as many messages, of that seed
 """
@@ -9,7 +10,7 @@ import json
 import random
 import sys
 
-from asked import STATE, STATE_SET, WORD, all_symbols, line_of, offsets_of
+from asked import STATE, STATE_SET, WORD, all_symbols, is_note, line_of, offsets_of
 from protocol import (
     Checker, Model, Server, ask, did_change, did_open, frame, initialize, note, request, wrong_in,
 )
@@ -73,14 +74,14 @@ class Asking:
         self.server, self.model, self.wrong = server, model, ""
         self.chance = random.Random(seed)
 
-    def result(self, method, *place):
+    def result(self, method, *given):
         """What is answered, once it is judged by the model."""
-        asked = ask(7, method, URI, *place)
+        asked = ask(7, method, URI, *given)
         self.server.send(frame(asked))
         body = self.server.body()
         for wanted in self.model.heard(json.dumps(asked)):
             wrong = wrong_in(body, wanted, self.model.is_utf8)
-            self.wrong = self.wrong or (wrong and f"{method} at {place}: {wrong}")
+            self.wrong = self.wrong or (wrong and f"{method} at {given}: {wrong}")
         return json.loads(body).get("result")
 
     def ask_some(self, text):
@@ -105,10 +106,18 @@ class Asking:
 
     def ask_at(self, text, line, character):
         """A definition and a hover at one place: both are there or none, and the hover begins with
-        the line of the declaration."""
+        the line of the declaration. At a token at fault the hover says what may come there. Then
+        references and highlights, by the model alone."""
         found = self.result("definition", line, character)
         hover = self.result("hover", line, character)
+        self.result("references", line, character, self.chance.random() < 0.5)
+        self.result("documentHighlight", line, character)
         if self.wrong or (found, hover) == (None, None):
+            return
+        if hover and is_note(hover):
+            at = hover["range"]["start"]["line"]
+            faults = [it[0] for it in self.model.checker.found(text) if it[1] == "E02"]
+            self.wrong = "" if at in faults else f"{hover} in line {at}, where no E02 is"
             return
         if not found or not hover:
             self.wrong = f"at {line}:{character} {found} is declared, and {hover} told"

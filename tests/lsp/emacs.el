@@ -39,12 +39,18 @@
       (dolist (it (cdr entry)) (tell-index it (concat tag (car entry) " ")))
     (tell "%s%s:%d" tag (car entry) (line-number-at-pos (cdr entry)))))
 
-;; Tells the symbols, where the name at point is declared, and what is told of it.
+;; Tells the symbols, where the name at point is declared, where it is named, and what is told of
+;; it.
 (defun tell-asked ()
   (dolist (entry (funcall imenu-create-index-function)) (tell-index entry ""))
   (dolist (it (xref-backend-definitions 'eglot (xref-backend-identifier-at-point 'eglot)))
     (let ((place (xref-item-location it)))
       (tell "declared in line %d" (xref-location-line place))))
+  (dolist (it (xref-backend-references 'eglot (xref-backend-identifier-at-point 'eglot)))
+    (tell "named in line %d" (xref-location-line (xref-item-location it))))
+  (tell "marked %d times"
+        (length (jsonrpc-request (eglot-current-server) :textDocument/documentHighlight
+                                 (eglot--TextDocumentPositionParams))))
   (let ((hover (jsonrpc-request (eglot-current-server) :textDocument/hover
                                 (eglot--TextDocumentPositionParams))))
     (tell "%s" (plist-get (plist-get hover :contents) :value))))

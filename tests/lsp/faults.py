@@ -28,6 +28,8 @@ def talks():
         ask(3, "documentSymbol", URI),
         ask(4, "definition", URI, 2, 30),
         ask(5, "hover", URI, 2, 36),
+        ask(6, "references", URI, 2, 36, False),
+        ask(7, "documentHighlight", URI, 2, 25),
         did_change(URI, [{"text": "ss"}], 3),
         *end,
     ]

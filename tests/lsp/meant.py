@@ -73,7 +73,7 @@ def quoted_end(text, at):
 
 def begins(text, at):
     """Whether a piece other than a run of bad bytes begins here."""
-    return bool(re.match(r"[\sA-Za-z0-9_#\"']", text[at])) or any(
+    return bool(re.match(r"[ \t\n\r\v\fA-Za-z0-9_#\"']", text[at])) or any(
         text.startswith(it, at) for it in MARKS
     )
 

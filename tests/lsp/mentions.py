@@ -1,6 +1,6 @@
 """What the names of a text mean, by a second judge (meant.py): at the first byte of each name of
 the programs of tests/cases, and of random ones, a definition has to be what the rules in words
-say.
+say, and so have the references, with what is declared and without by turns, and the highlights.
 
 Usage: mentions.py SERVER NUMBER SEED    as many random programs, of that seed
 """
@@ -12,7 +12,7 @@ import re
 import sys
 
 from asked import offsets_of
-from meant import definitions_of, names_of
+from meant import definitions_of, mentions_of, names_of
 from protocol import ask, bodies, did_open, frame, initialize, note, request, run
 from texts import place_of
 
@@ -186,22 +186,56 @@ def some_program(chance):
 # ---- what is compared
 
 
-def wrong_meanings(server, text):
-    """What is wrong with what the names of a text mean; nothing, where both judges agree."""
-    names, wanted = names_of(text), definitions_of(text)
+# What is asked of each name.
+ASKED = ("definition", "references", "documentHighlight")
+
+
+def told_of_names(server, text, names):
+    """For each name what is answered to each question on it; what is wrong with the run, if so."""
     talk = [initialize(["utf-8"]), note("initialized"), did_open(URI, text.decode())]
     for number, offset in enumerate(names):
-        talk.append(ask(number + 10, "definition", URI, *place_of(text, offset, True)))
+        for at, method in enumerate(ASKED, 3 * number + 10):
+            place = place_of(text, offset, True)
+            talk.append(ask(at, method, URI, *place, number % 2 == 0))
     talk += [request(2, "shutdown"), note("exit")]
     output, errors, status = run(server, b"".join(map(frame, talk)))
     if (errors, status) != (b"", 0):
-        return f"status {status}, {errors!r}"
+        return [], f"status {status}, {errors!r}"
     told = {it["id"]: it.get("result") for it in map(json.loads, bodies(output)) if "id" in it}
-    for number, offset in enumerate(names):
-        found = told.get(number + 10)
-        start = offsets_of(text, found["range"], True)[0] if found else None
-        if start != wanted.get(offset):
-            return f"the name at {offset} means {start}, and not {wanted.get(offset)}: {text!r}"
+    numbers = range(len(names))
+    return [[told.get(3 * number + at) for at in (10, 11, 12)] for number in numbers], ""
+
+
+def starts_of(text, found):
+    """Where the ranges of an answer begin; nothing, where it is none."""
+    return None if found is None else [offsets_of(text, it["range"], True)[0] for it in found]
+
+
+def named_alike(meant):
+    """For each place that names mean, the names that mean it, in the order of the text."""
+    alike = {}
+    for offset in sorted(meant):
+        alike.setdefault(meant[offset], []).append(offset)
+    return alike
+
+
+def wrong_meanings(server, text):
+    """What is wrong with what the names of a text mean; nothing, where both judges agree."""
+    names, defined, meant = names_of(text), definitions_of(text), mentions_of(text)
+    told, wrong = told_of_names(server, text, names)
+    if wrong:
+        return wrong
+    alike = named_alike(meant)
+    for number, (offset, (definition, references, highlights)) in enumerate(zip(names, told)):
+        marked = alike.get(meant.get(offset))
+        named = marked
+        if marked and number % 2:
+            named = [it for it in marked if it != meant[offset]]
+        wanted = [defined.get(offset), named, marked]
+        start = offsets_of(text, definition["range"], True)[0] if definition else None
+        found = [start, starts_of(text, references), starts_of(text, highlights)]
+        if found != wanted:
+            return f"the name at {offset} means {found}, and not {wanted}: {text!r}"
     return ""
 
 

@@ -21,15 +21,26 @@ local function tell(tag)
 end
 
 -- What the server answers to a question on the text, at a place where it is one on a place.
-local function ask(method, line, column)
-  local params = vim.lsp.util.make_text_document_params()
-  params = { textDocument = params, position = { line = line, character = column } }
+local function ask(method, line, column, context)
+  local params = { textDocument = vim.lsp.util.make_text_document_params(), context = context }
+  params.position = { line = line, character = column }
   local answers = vim.lsp.buf_request_sync(0, 'textDocument/' .. method, params, 9000) or {}
   local _, answer = next(answers)
   return answer and answer.result
 end
 
--- Tells the symbols, where the name at a place is declared, and what is told of it.
+-- Tells where the name at a place is named, and how often it is marked.
+local function tell_references(line, column)
+  local found = ask('references', line, column, { includeDeclaration = true }) or {}
+  for _, it in ipairs(vim.lsp.util.locations_to_items(found, 'utf-16')) do
+    table.insert(lines, ('named at %d:%d'):format(it.lnum - 1, it.col - 1))
+  end
+  local marked = ask('documentHighlight', line, column) or {}
+  table.insert(lines, ('marked %d times'):format(#marked))
+end
+
+-- Tells the symbols, where the name at a place is declared, what is told of it, and where it is
+-- named.
 local function tell_asked(line, column)
   for _, it in ipairs(vim.lsp.util.symbols_to_items(ask('documentSymbol') or {}, 0)) do
     table.insert(lines, ('%d:%d %s'):format(it.lnum - 1, it.col - 1, it.text))
@@ -41,6 +52,7 @@ local function tell_asked(line, column)
   for _, it in ipairs(vim.lsp.util.convert_input_to_markdown_lines(hover.contents)) do
     table.insert(lines, it)
   end
+  tell_references(line, column)
 end
 
 local function keys(typed)

@@ -73,11 +73,14 @@ def did_close(uri):
     return note("textDocument/didClose", {"textDocument": {"uri": uri}})
 
 
-def ask(number, method, uri, line=None, character=None):
-    """A question on a document, or on a place of it."""
+def ask(number, method, uri, line=None, character=None, includes=True):
+    """A question on a document, or on a place of it; with or without what is declared, where the
+    method asks for that."""
     params = {"textDocument": {"uri": uri}}
     if line is not None:
         params["position"] = {"line": line, "character": character}
+    if METHODS[f"textDocument/{method}"].has_context:
+        params["context"] = {"includeDeclaration": includes}
     return request(number, f"textDocument/{method}", params)
 
 
@@ -230,9 +233,13 @@ class Model:
             uri = params["textDocument"]["uri"]
             place = params["position"] if METHODS[method].is_of_place else None
             numbers = [] if place is None else [place["line"], place["character"]]
+            has_context = METHODS[method].has_context
+            includes = params["context"]["includeDeclaration"] if has_context else True
         except (KeyError, TypeError):
             return error(number, -32602)
         if not isinstance(uri, str) or any(not is_number(it) for it in numbers):
+            return error(number, -32602)
+        if not isinstance(includes, bool):
             return error(number, -32602)
         if uri not in self.documents:
             return error(number, -32602)
@@ -242,6 +249,7 @@ class Model:
             return {**plain, "result": None}
         rows = self.checker.listed(text) if place is None else None
         asked = {"method": method, "uri": uri, "place": numbers, "text": text, "rows": rows}
+        asked["includes"] = includes
         return {"asked": asked, "plain": plain}
 
     def begin(self, number, params):

@@ -1,5 +1,5 @@
-"""What is asked of a document, worked by hand: outlines, definitions and hovers, where there is
-nothing to tell, and where no such thing may be asked."""
+"""What is asked of a document, worked by hand: outlines, definitions, hovers and references, where
+there is nothing to tell, and where no such thing may be asked."""
 import json
 
 from asked import METHODS
@@ -98,6 +98,61 @@ HOVERS = (
     (0, 9, None, None),
 )
 
+# A text with faulty items, and what is said of the tokens at fault: where a cursor is, and the range
+# of the token.
+FAULTY = """program pump
+int level
+evflag ready;
+ss control {
+  state low { whn (level) { } exit }
+}
+stat high { }
+"""
+DECLARATOR = "expected ';', ',', '(', '[' or '='"
+FAULTS = (
+    (2, 0, DECLARATOR, in_line(2, 0, 6)),
+    (2, 4, DECLARATOR, in_line(2, 0, 6)),
+    (2, 6, DECLARATOR, in_line(2, 0, 6)),
+    (2, 8, None, None),
+    (4, 8, "state low { whn (level) { } exit }\nfaulty", in_line(4, 8, 11)),
+    (
+        4, 14, "expected '}' or a member of a state; did you mean 'when'?", in_line(4, 14, 17),
+    ),
+    (4, 19, None, None),
+    (6, 1, "expected an item; did you mean 'state'?", in_line(6, 0, 4)),
+)
+
+# Where a cursor is, where the name there is declared, and where it is named besides, in the order
+# of the text; none where it means nothing.
+REFERENCES = (
+    ("a variable", 7, 27, LEVEL,
+     [in_line(1, 18, 23), in_line(1, 48, 53), in_line(2, 19, 24), in_line(7, 27, 32)]),
+    ("its declaration", 1, 9, LEVEL,
+     [in_line(1, 18, 23), in_line(1, 48, 53), in_line(2, 19, 24), in_line(7, 27, 32)]),
+    ("a flag", 7, 22, READY, [in_line(2, 28, 33), in_line(7, 17, 22)]),
+    ("a flag in a clause", 2, 33, READY, [in_line(2, 28, 33), in_line(7, 17, 22)]),
+    ("what a set declares", 4, 6, in_line(4, 6, 11), [in_line(7, 59, 64)]),
+    ("what a state declares", 7, 36, in_line(6, 8, 13), [in_line(7, 35, 40)]),
+    ("a local", 7, 53, in_line(7, 48, 51), [in_line(7, 53, 56)]),
+    ("a target", 7, 75, HIGH, [in_line(7, 74, 78)]),
+    ("a state that nothing leads to", 5, 8, in_line(5, 8, 11), []),
+    ("a state set", 3, 9, in_line(3, 3, 10), []),
+    ("after the line", 7, 999, HIGH, [in_line(7, 74, 78)]),
+    ("a mark", 7, 33, None, []),
+    ("white space", 7, 2, None, []),
+    ("after the text", 99, 9, None, []),
+    ("the program", 0, 9, None, []),
+    ("a name that isn't declared", 7, 11, None, []),
+)
+# A function with a prototype: that is no definition, but it is a reference.
+PROTOTYPE = """program p
+int f(int n);
+int f(int n) { return n; }
+ss s { state a { when (f(1)) { } exit } }
+"""
+FUNCTION = in_line(2, 4, 5)
+CALLED = [in_line(1, 4, 5), FUNCTION, in_line(3, 23, 24)]
+
 
 def results(server, messages, encodings=None):
     """What is answered to requests among messages: the result of each, or the code of its error."""
@@ -121,6 +176,46 @@ def told(value, marked):
     return {"contents": {"kind": "plaintext", "value": value}, "range": marked}
 
 
+def locations(ranges, uri=URI):
+    return None if ranges is None else [located(it, uri) for it in ranges]
+
+
+def marked(ranges):
+    return None if ranges is None else [{"range": it} for it in ranges]
+
+
+def all_of(declared, others):
+    """All references of a name, in the order of the text."""
+    if declared is None:
+        return None
+    return sorted([declared, *others], key=lambda it: [*it["start"].values()])
+
+
+def references_by_hand():
+    """References with what is declared and without, and highlights."""
+    opened = did_open(URI, TEXT)
+    for name, line, character, declared, others in REFERENCES:
+        asked = [
+            ask(1, "references", URI, line, character),
+            ask(2, "references", URI, line, character, False),
+            ask(3, "documentHighlight", URI, line, character),
+        ]
+        ranges = all_of(declared, others)
+        some = None if declared is None else others
+        wanted = [locations(ranges), locations(some), marked(ranges)]
+        yield f"the references of {name}", [opened, *asked], wanted
+    opened = did_open(URI, PROTOTYPE)
+    for it in CALLED:
+        line, character = it["start"]["line"], it["start"]["character"]
+        asked = [
+            ask(1, "references", URI, line, character),
+            ask(2, "references", URI, line, character, False),
+            ask(3, "documentHighlight", URI, line, character),
+        ]
+        wanted = [locations(CALLED), locations([CALLED[0], CALLED[2]]), marked(CALLED)]
+        yield f"the references of a function at {line}:{character}", [opened, *asked], wanted
+
+
 def by_hand():
     """Of each its name, messages, and what is answered to the requests among them."""
     opened = did_open(URI, TEXT)
@@ -129,9 +224,16 @@ def by_hand():
     for name, line, character, declared in DEFINITIONS:
         asked = ask(1, "definition", URI, line, character)
         yield f"the definition at {name}", [opened, asked], [located(declared)]
-    for line, character, value, marked in HOVERS:
+    for line, character, value, marked_range in HOVERS:
         asked = ask(1, "hover", URI, line, character)
-        yield f"the hover at {line}:{character}", [opened, asked], [told(value, marked)]
+        yield f"the hover at {line}:{character}", [opened, asked], [told(value, marked_range)]
+    for line, character, value, marked_range in FAULTS:
+        asked = ask(1, "hover", URI, line, character)
+        faulty = [did_open(URI, FAULTY), asked]
+        yield f"what is said of a fault at {line}:{character}", faulty, [told(value, marked_range)]
+    short = [did_open(URI, "program p\nint x"), ask(1, "hover", URI, 1, 5)]
+    yield "what is said of a fault at the end", short, [told(DECLARATOR, in_line(1, 4, 5))]
+    yield from references_by_hand()
     yield from at_other_times()
 
 
@@ -141,6 +243,8 @@ def asks(uri, line=7, character=27):
         ask(1, "documentSymbol", uri),
         ask("two", "definition", uri, line, character),
         ask(3, "hover", uri, line, character),
+        ask(4, "references", uri, line, character),
+        ask("five", "documentHighlight", uri, line, character),
     ]
 
 
@@ -155,7 +259,9 @@ def at_other_times():
     large = did_open(OTHER, TEXT + " " * 1048576)
     yield "one that is too large", [opened, large, *asks(OTHER)], nothing
     shrunk = did_change(OTHER, [part((11, 0), (11, 2000000), "")])
+    ranges = all_of(*REFERENCES[0][3:])
     answers = [OUTLINE, located(LEVEL, OTHER), told(*HOVERS[0][2:])]
+    answers += [locations(ranges, OTHER), marked(ranges)]
     yield "one that fits again", [large, shrunk, opened, *asks(OTHER)], answers
     wrong = [
         request(1, "textDocument/hover"),
@@ -163,8 +269,11 @@ def at_other_times():
         request(3, "textDocument/documentSymbol", {"textDocument": {}}),
         ask(4, "hover", URI, -1, 0),
         ask(5, "definition", URI, 1.0, 0),
+        ask(6, "documentHighlight", URI),
+        ask(7, "references", URI, 7, 27, "true"),
+        request(8, "textDocument/references", ask(8, "hover", URI, 7, 27)["params"]),
     ]
-    yield "parameters that do not fit", [opened, *wrong], [-32602] * 5
+    yield "parameters that do not fit", [opened, *wrong], [-32602] * len(wrong)
     yield "before and after a change", [
         did_open(URI, "program p\nint x;"),
         ask(1, "definition", URI, 1, 4),
@@ -188,11 +297,13 @@ def wide(server):
     for encodings, column in ((None, 14), (["utf-8"], 17)):
         name, use = in_line(1, column, column + 4), in_line(1, column + 29, column + 33)
         messages = [did_open(URI, WIDE), *asks(URI, 1, column + 33)]
-        outline, definition, hover, *_ = results(server, messages, encodings)
+        outline, definition, hover, *found = results(server, messages, encodings)
         declared = [it for it in outline if it["name"] == "wide"]
         wanted = symbol(13, "wide", in_line(1, column - 4, column + 5), name)
         is_right = (declared, definition) == ([wanted], located(name)) and hover["range"] == use
-        yield f"columns by {encodings}", "" if is_right else f"{declared}, {definition}, {hover}"
+        is_right = is_right and found == [locations([name, use]), marked([name, use])]
+        told_of = declared, definition, hover, found
+        yield f"columns by {encodings}", "" if is_right else f"{told_of}"
 
 
 def cases(server, _cli):

@@ -9,6 +9,7 @@ mod Seen
 mod SoundAnswered
 mod SoundAnswers
 mod SoundNotices
+mod SoundParts
 mod SoundPlaces
 mod SoundSymbols
 mod Spelling

@@ -8,7 +8,7 @@ use Rattle.json.specs.Value.{items_view, value_view}
 use Rattle.json.specs.declared.value.Value.{Value, Array}
 use Rattle.json.proofs.Trees.{view-Array}
 use Rattle.serde_json.specs.Data.{Num, Data, number, null, array, object, item, Members, no_members, put}
-use Rattle.serde_json.specs.Find.{as_array, as_number, as_str, get, get_member}
+use Rattle.serde_json.specs.Find.{as_array, as_bool, as_number, as_str, get, get_member}
 use Rattle.serde_json.specs.Read.{number_of, of_items, of_json, of_members}
 use Rattle.serde_json.proofs.Views.{get_member-put, get_member-put_other}
 use Rattle.snl_hear.specs.Values.{are_in_range, data_of, items_in_range, items_of, members_in_range, members_of, seen, seen_all}
@@ -157,6 +157,20 @@ string_at (json.object ms) = refl
 pub string_seen : (value : Value Global) → tree.as_str (value_view value) ≡ as_str (seen value)
 unfolding seen
 string_seen value = string_at (value_view value)
+
+boolean_at : (j : json.Json) → tree.as_bool j ≡ as_bool (data_of j)
+boolean_at json.null = refl
+boolean_at (json.boolean b) = refl
+boolean_at (json.number s) =
+    elim (number_of s) as (λ o. None ≡ as_bool (option_map_or number o null))
+    [ None ↦ refl | Some n ↦ refl ]
+boolean_at (json.string s) = refl
+boolean_at (json.array js) = refl
+boolean_at (json.object ms) = refl
+
+pub boolean_seen : (value : Value Global) → tree.as_bool (value_view value) ≡ as_bool (seen value)
+unfolding seen
+boolean_seen value = boolean_at (value_view value)
 
 number_at : (j : json.Json) →
     option_and_then number_of (tree.as_number j) ≡ as_number (data_of j)

@@ -67,7 +67,7 @@ initialize_answer id encoding h =
 
 -- ---- a part of a document, and what is told of it
 
-located_sound : (uri : List ℕ) (start stop : Place) → IsUtf8 uri → IsSoundPlace start →
+pub located_sound : (uri : List ℕ) (start stop : Place) → IsUtf8 uri → IsSoundPlace start →
     IsSoundPlace stop → IsSound (located_data uri start stop)
 located_sound uri start stop u h k = (
   ascii (codes "range") refl,

@@ -7,7 +7,7 @@ use Rattle.snl_hear.specs.Heard.{Request, Notification, heard_in, request_by}
 use Rattle.snl_hear.specs.Ids.{is_id}
 use Rattle.snl_hear.specs.Notifications.{Noted, changed_by}
 use Rattle.snl_hear.specs.Requests.{Asked}
-use Rattle.snl_hear.specs.Spelled.{IsAsked, initialize, shutdown, symbols, definition, hover, IsTold, initialized, exit, opened, changed, closed, change_data, changes_data, request_data, notification_data}
+use Rattle.snl_hear.specs.Spelled.{IsAsked, initialize, shutdown, symbols, definition, hover, references, highlights, IsTold, initialized, exit, opened, changed, closed, change_data, changes_data, request_data, notification_data}
 
 -- by whether the value is an id
 with_id : (id : Data) (asked : Asked) → is_id id ≡ true →
@@ -23,6 +23,9 @@ request_heard id method params asked is shutdown = with_id id asked is
 request_heard id method params asked is (symbols uri) = with_id id asked is
 request_heard id method params asked is (definition uri place) = with_id id asked is
 request_heard id method params asked is (hover uri place) = with_id id asked is
+request_heard id method params asked is (references uri place includes_declaration) =
+    with_id id asked is
+request_heard id method params asked is (highlights uri place) = with_id id asked is
 
 change_heard : (c : Changed) → change_in (change_data c) ≡ Some c
 change_heard (Whole text) = refl

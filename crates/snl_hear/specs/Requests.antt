@@ -15,18 +15,22 @@ use Rattle.snl_hear.specs.declared.requests.Request.{Request}
 use Rattle.snl_hear.specs.declared.requests.Request.TheVariants as request
 use Rattle.snl_hear.specs.declared.requests.RequestMethod.{RequestMethod}
 use Rattle.snl_hear.specs.declared.requests.RequestMethod.TheVariants as method
-use Rattle.snl_hear.specs.Documents.{position_in, uri_in}
+use Rattle.snl_hear.specs.Documents.{includes_declaration_in, position_in, uri_in}
 
 -- What is asked of a document.
 pub data Query : Type 0 where
   Symbols : Query
   Definition : Place → Query
   Hover : Place → Query
+  References : Place → (includes_declaration : Bool) → Query
+  Highlights : Place → Query
 
 abbrev pub query_of : Question → Query
 query_of question.Symbols = Symbols
 query_of (question.Definition place) = Definition place
 query_of (question.Hover place) = Hover place
+query_of (question.References place includes_declaration) = References place includes_declaration
+query_of (question.Highlights place) = Highlights place
 
 -- What a request asks, with the bytes of its strings.
 pub data Asked : Type 0 where
@@ -52,6 +56,10 @@ method_named name =
     else if bytes_eq name (codes "textDocument/definition")
     then method.OfDocument document.Definition
     else if bytes_eq name (codes "textDocument/hover") then method.OfDocument document.Hover
+    else if bytes_eq name (codes "textDocument/references")
+    then method.OfDocument document.References
+    else if bytes_eq name (codes "textDocument/documentHighlight")
+    then method.OfDocument document.Highlights
     else method.Other
 
 -- `{"capabilities": {"general": {"positionEncodings": [ENCODING, ..]}}}`
@@ -71,11 +79,19 @@ offers_utf_8 (item d ds) = says_utf_8 d || offers_utf_8 ds
 abbrev pub encoding_in : Option Data → Encoding
 encoding_in params = if option_map_or offers_utf_8 (offered_in params) false then Utf8 else Utf16
 
+-- `{"position": PLACE, "context": {"includeDeclaration": BOOLEAN}}`
+abbrev pub references_in : (params : Option Data) → Option Query
+references_in params =
+    option_and_then (λ place. option_map (References place) (includes_declaration_in params))
+    (position_in params)
+
 -- The question of a method, by its parameters.
 abbrev pub query_by : DocumentMethod → (params : Option Data) → Option Query
 query_by document.Symbols params = Some Symbols
 query_by document.Definition params = option_map Definition (position_in params)
 query_by document.Hover params = option_map Hover (position_in params)
+query_by document.References params = references_in params
+query_by document.Highlights params = option_map Highlights (position_in params)
 
 -- What is asked of the document that the parameters name.
 abbrev pub asked_of_document : DocumentMethod → (params : Option Data) → Option Asked

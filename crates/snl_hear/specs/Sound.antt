@@ -5,7 +5,7 @@ use Rattle.std.specs.Ordering.{nat_cmp}
 use Rattle.std.specs.declared.cmp.Ordering.TheVariants.{Greater}
 use Rattle.serde_json.specs.Data.{Num, unsigned, negative, float, Data, null, boolean, number, string, array, object, Items, no_items, item, Members, no_members, member}
 use Rattle.snl_place.specs.declared.places.Place.{Place}
-use Rattle.snl_say.specs.Answered.{Answered, Nothing, Location, Hover, Symbols}
+use Rattle.snl_say.specs.Answered.{Answered, Nothing, Location, Hover, Symbols, Locations, Ranges}
 use Rattle.snl_say.specs.Publish.{Found}
 use Rattle.snl_say.specs.Symbols.{SymbolFound}
 
@@ -72,9 +72,15 @@ abbrev pub AreSoundSymbols : List SymbolFound → Type 0
 AreSoundSymbols [] = ⊤
 AreSoundSymbols (s ∷ ss) = IsSoundSymbol s × AreSoundSymbols ss
 
+abbrev pub AreSoundParts : List (Place × Place) → Type 0
+AreSoundParts [] = ⊤
+AreSoundParts (part ∷ parts) = IsSoundPlace part.0 × IsSoundPlace part.1 × AreSoundParts parts
+
 abbrev pub IsSoundAnswer : Answered → Type 0
 IsSoundAnswer Nothing = ⊤
 IsSoundAnswer (Location start stop) = IsSoundPlace start × IsSoundPlace stop
 IsSoundAnswer (Hover contents start stop) =
     IsUtf8 contents × IsSoundPlace start × IsSoundPlace stop
 IsSoundAnswer (Symbols symbols) = AreSoundSymbols symbols
+IsSoundAnswer (Locations parts) = AreSoundParts parts
+IsSoundAnswer (Ranges parts) = AreSoundParts parts

@@ -1,7 +1,7 @@
 -- How a client writes what it says, as JSON. The members of an object are in the order of their
 -- names.
-use Rattle.std.specs.Prelude.{ℕ, List, [], ◌∷◌, Option, codes}
-use Rattle.serde_json.specs.Data.{Data, null, object, string, array, Items, no_items, item, no_members, member}
+use Rattle.std.specs.Prelude.{ℕ, Bool, List, [], ◌∷◌, Option, codes}
+use Rattle.serde_json.specs.Data.{Data, null, boolean, object, string, array, Items, no_items, item, no_members, member}
 use Rattle.snl_place.specs.declared.places.Encoding.{Encoding}
 use Rattle.snl_place.specs.declared.places.Encoding.TheVariants.{Utf8, Utf16}
 use Rattle.snl_place.specs.declared.places.Place.{Place}
@@ -9,7 +9,7 @@ use Rattle.snl_say.specs.Places.{place_data, range_data}
 use Rattle.snl_say.specs.Publish.{version_data}
 use Rattle.snl_hear.specs.Changes.{Changed, Whole, Part}
 use Rattle.snl_hear.specs.Notifications.{Noted, Initialized, Exit, DidOpen, DidChange, DidClose}
-use Rattle.snl_hear.specs.Requests.{Asked, Initialize, Shutdown, OfDocument, Symbols, Definition, Hover}
+use Rattle.snl_hear.specs.Requests.{Asked, Initialize, Shutdown, OfDocument, Symbols, Definition, Hover, References, Highlights}
 
 -- ---- parameters
 
@@ -36,6 +36,14 @@ located_data uri place =
     object (member (codes "position") (place_data place)
     (member (codes "textDocument") (object (member (codes "uri") (string uri) no_members))
     no_members))
+
+abbrev pub references_data : (uri : List ℕ) → Place → (includes_declaration : Bool) → Data
+references_data uri place includes_declaration =
+    object (member (codes "context")
+    (object (member (codes "includeDeclaration") (boolean includes_declaration) no_members))
+    (member (codes "position") (place_data place)
+    (member (codes "textDocument") (object (member (codes "uri") (string uri) no_members))
+    no_members)))
 
 abbrev pub opened_data : (uri : List ℕ) → (version : Option ℕ) → (text : List ℕ) → Data
 opened_data uri version text =
@@ -88,6 +96,12 @@ pub data IsAsked : (method : List ℕ) → (params : Data) → Asked → Type 0 
       (OfDocument uri (Definition place))
   hover : (uri : List ℕ) (place : Place) →
       IsAsked (codes "textDocument/hover") (located_data uri place) (OfDocument uri (Hover place))
+  references : (uri : List ℕ) (place : Place) (includes_declaration : Bool) →
+      IsAsked (codes "textDocument/references") (references_data uri place includes_declaration)
+      (OfDocument uri (References place includes_declaration))
+  highlights : (uri : List ℕ) (place : Place) →
+      IsAsked (codes "textDocument/documentHighlight") (located_data uri place)
+      (OfDocument uri (Highlights place))
 
 pub data IsTold : (method : List ℕ) → (params : Data) → Noted → Type 0 where
   initialized : IsTold (codes "initialized") (object no_members) Initialized

@@ -1,13 +1,14 @@
-//! What parameters say of a document: its URI, its version, its text, a place in it.
+//! What parameters say of a document: its URI, its version, its text, a place in it, and whether a
+//! declaration is asked for too.
 //! In: the parameters, if there are any. Out: a part of them, if it is there and well formed.
 //! Knows nothing of methods.
 
 ghost use Rattle.std.specs.Prelude.{◌≡◌, option_and_then, option_map};
 ghost use Rattle.serde_json.specs.Find.{get};
-ghost use Rattle.snl_hear.specs.Documents.{document_in, number_at, place_in, position_in, string_at, text_in, uri_in, version_in};
+ghost use Rattle.snl_hear.specs.Documents.{boolean_at, document_in, includes_declaration_in, number_at, place_in, position_in, string_at, text_in, uri_in, version_in};
 ghost use Rattle.snl_hear.specs.Values.{seen};
 
-use crate::values::{member_of, string_in, unsigned_of};
+use crate::values::{boolean_in, member_of, string_in, unsigned_of};
 use json::Value;
 use snl_place::Place;
 
@@ -21,6 +22,12 @@ pub fn string_at<'a>(value: &Value<'a>, key: &str) -> Option<&'a str>
     ensures { option_map (λ s. s.now) result ≡ string_at key.now (seen value.now) }
 {
     string_in(member_of(value, key)?)
+}
+
+fn boolean_at(value: &Value<'_>, key: &str) -> Option<bool>
+    ensures { result ≡ boolean_at key.now (seen value.now) }
+{
+    boolean_in(member_of(value, key)?)
 }
 
 /// `{"line": LINE, "character": CHARACTER}`
@@ -71,4 +78,11 @@ pub fn position_in(params: Option<&Value<'_>>) -> Option<Place>
     ensures { result ≡ position_in (option_map (λ v. seen v.now) params.entry) }
 {
     place_in(member_of(params?, "position")?)
+}
+
+/// `{"context": {"includeDeclaration": BOOLEAN}}`
+pub fn includes_declaration_in(params: Option<&Value<'_>>) -> Option<bool>
+    ensures { result ≡ includes_declaration_in (option_map (λ v. seen v.now) params.entry) }
+{
+    boolean_at(member_of(params?, "context")?, "includeDeclaration")
 }

@@ -3,10 +3,10 @@
 //! Knows nothing of its id, and of what is answered.
 
 ghost use Rattle.std.specs.Prelude.{◌≡◌, option_map};
-ghost use Rattle.snl_hear.specs.Requests.{asked_in, asked_of, asked_of_document, encoding_in, method_named, offered_in, offers_utf_8, query_by, query_of, says_utf_8};
+ghost use Rattle.snl_hear.specs.Requests.{asked_in, asked_of, asked_of_document, encoding_in, method_named, offered_in, offers_utf_8, query_by, query_of, references_in, says_utf_8};
 ghost use Rattle.snl_hear.specs.Values.{seen, seen_all};
 
-use crate::documents::{position_in, uri_in};
+use crate::documents::{includes_declaration_in, position_in, uri_in};
 use crate::values::{items_of, member_of, string_in};
 use json::Value;
 use snl_place::{Encoding, Place};
@@ -21,6 +21,13 @@ pub enum Question {
     Definition(Place),
     /// `textDocument/hover`
     Hover(Place),
+    /// `textDocument/references`
+    References {
+        place: Place,
+        includes_declaration: bool,
+    },
+    /// `textDocument/documentHighlight`
+    Highlights(Place),
 }
 
 /// What a request asks.
@@ -53,6 +60,8 @@ enum DocumentMethod {
     Symbols,
     Definition,
     Hover,
+    References,
+    Highlights,
 }
 
 fn method_named(name: &str) -> RequestMethod
@@ -64,6 +73,8 @@ fn method_named(name: &str) -> RequestMethod
         "textDocument/documentSymbol" => RequestMethod::OfDocument(DocumentMethod::Symbols),
         "textDocument/definition" => RequestMethod::OfDocument(DocumentMethod::Definition),
         "textDocument/hover" => RequestMethod::OfDocument(DocumentMethod::Hover),
+        "textDocument/references" => RequestMethod::OfDocument(DocumentMethod::References),
+        "textDocument/documentHighlight" => RequestMethod::OfDocument(DocumentMethod::Highlights),
         _ => RequestMethod::Other,
     }
 }
@@ -107,6 +118,19 @@ fn encoding_in(params: Option<&Value<'_>>) -> Encoding
     }
 }
 
+/// `{"position": PLACE, "context": {"includeDeclaration": BOOLEAN}}`
+fn references_in(params: Option<&Value<'_>>) -> Option<Question>
+    ensures { option_map (λ question. query_of question) result
+        ≡ references_in (option_map (λ v. seen v.now) params.entry) }
+{
+    let place = position_in(params)?;
+    let includes_declaration = includes_declaration_in(params)?;
+    Some(Question::References {
+        place,
+        includes_declaration,
+    })
+}
+
 /// The question of this method, by its parameters.
 fn question_in(method: DocumentMethod, params: Option<&Value<'_>>) -> Option<Question>
     ensures { option_map (λ question. query_of question) result
@@ -116,6 +140,8 @@ fn question_in(method: DocumentMethod, params: Option<&Value<'_>>) -> Option<Que
         DocumentMethod::Symbols => Some(Question::Symbols),
         DocumentMethod::Definition => Some(Question::Definition(position_in(params)?)),
         DocumentMethod::Hover => Some(Question::Hover(position_in(params)?)),
+        DocumentMethod::References => references_in(params),
+        DocumentMethod::Highlights => Some(Question::Highlights(position_in(params)?)),
     }
 }
 

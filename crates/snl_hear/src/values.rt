@@ -4,7 +4,7 @@
 
 ghost use Rattle.std.specs.Prelude.{◌≡◌, IfSome, option_and_then, option_map};
 ghost use Rattle.serde_json.specs.Data.{negative};
-ghost use Rattle.serde_json.specs.Find.{as_array, as_number, as_str, as_u64, get};
+ghost use Rattle.serde_json.specs.Find.{as_array, as_bool, as_number, as_str, as_u64, get};
 ghost use Rattle.snl_hear.specs.Sound.{IsSoundNumber};
 ghost use Rattle.snl_hear.specs.Values.{as_negative, seen, seen_all};
 
@@ -22,6 +22,12 @@ pub fn string_in<'a>(value: &Value<'a>) -> Option<&'a str>
     ensures { option_map (λ s. s.now) result ≡ as_str (seen value.now) }
 {
     value.as_str()
+}
+
+pub fn boolean_in(value: &Value<'_>) -> Option<bool>
+    ensures { result ≡ as_bool (seen value.now) }
+{
+    value.as_bool()
 }
 
 /// An integer of 64 bits, from 0 on.

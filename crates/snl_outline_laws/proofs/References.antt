@@ -1,9 +1,10 @@
--- References by their tokens: where two names have one in common, they mean the same.
+-- References by their tokens: where two names have one in common, they mean the same; and each of them
+-- leads to all.
 use Rattle.std.proofs.Common.{◌≡◌, ℕ, ◌+◌, ◌<◌, ◌≤◌, ◌&&◌, nat_le, nat_lt, true, List, [], Contains, slice_get, Option, None, Some, option_map, refl, ap, sym, subst, ◌∙◌, arith, le-leb, lt-ltb}
 use Rattle.std.proofs.lemmas.List.Elements.{All-contains, All-from_recursion}
 use Rattle.std.proofs.lemmas.Option.{same_Some}
 use Rattle.std.specs.List.{AllByRecursion as Each}
-use Rattle.std.specs.Option.{option_and_then, option_map_or}
+use Rattle.std.specs.Option.{option_and_then, option_map_or, option_or}
 use Rattle.snl_facts.specs.Each.{each_got}
 use Rattle.snl_lex.specs.declared.piece.Piece.{Piece}
 use Rattle.snl_lex.specs.Pieces.{LiesIn, piece_end}
@@ -16,7 +17,7 @@ use Rattle.snl_questions.specs.declared.mentions.mention.Reference.{Reference}
 use Rattle.snl_questions.specs.Items.{span_at, span_of}
 use Rattle.snl_questions.specs.Meanings.{place_from}
 use Rattle.snl_questions.specs.MentionLaws.{each_reference}
-use Rattle.snl_questions.specs.Mentions.{mentioned_at, mentioned_near, mentions_in, references_near, references_of}
+use Rattle.snl_questions.specs.Mentions.{mentioned_at, mentioned_before, mentioned_near, mentioned_of, mentions_in, references_near, references_of}
 use Rattle.snl_questions.specs.Tokens.{has_byte}
 use Rattle.snl_outline_laws.proofs.Places.{place_found}
 use Rattle.snl_outline_laws.proofs.Rows.{AreInARow}
@@ -101,3 +102,19 @@ module _ (text : List ℕ) (row : AreInARow text)
         by (Some q) (Some p) one two =
             ap (references_of text)
             (one_place q p r s (one_of q r one) (one_of p s two) same)
+
+    pub lead_to_all : (offset : ℕ) (r : Reference) → Contains (references_near text offset) r →
+        references_near text r.span.start ≡ references_near text offset
+    unfolding references_near mentioned_near mentioned_of
+    lead_to_all offset r there = by (mentioned_near text offset) there
+      where
+        by : (o : Option TokenPlace) → Contains (option_map_or (references_of text) o []) r →
+            references_near text r.span.start ≡ option_map_or (references_of text) o []
+        by None there = absurd (omega (arith, there.1))
+        by (Some q) there =
+            let one = one_of q r there in
+            let here : option_and_then (mentioned_at text) (place_from r.span.start 0 xs) ≡ Some q =
+            ap (option_and_then (mentioned_at text)) (token_place one.at r.span one.token)
+            ∙ one.means in
+            ap (λ (o : Option TokenPlace). option_map_or (references_of text)
+            (option_or o (mentioned_before text r.span.start)) []) here

@@ -8,4 +8,4 @@ mod reference_laws;
 
 pub use meaning_laws::declared_names_mean_themselves;
 pub use outline_laws::tables_are_outlined;
-pub use reference_laws::references_are_apart;
+pub use reference_laws::{references_are_apart, references_lead_to_all};

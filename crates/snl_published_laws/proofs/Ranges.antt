@@ -22,7 +22,7 @@ use Rattle.snl_shown.specs.Found.{extent}
 
 -- ---- what is known of a token
 
-abbrev HoldsCharacters : List ℕ → Piece → Type 0
+abbrev pub HoldsCharacters : List ℕ → Piece → Type 0
 HoldsCharacters text p = IsCharBoundary text p.start × IsCharBoundary text (piece_end p)
 
 -- a piece that begins with an LF is white space
@@ -44,7 +44,7 @@ found_has P test (y ∷ ys) x all h = by (test y) (found_has P test ys x all.1) 
     by true rest e = let same : y ≡ x = cc in subst P same all.0
     by false rest e = rest e
 
-filter_passes : (p : Piece → Bool) (xs : List Piece) → Each (λ x. p x ≡ true) (filter p xs)
+pub filter_passes : (p : Piece → Bool) (xs : List Piece) → Each (λ x. p x ≡ true) (filter p xs)
 filter_passes p [] = tt
 filter_passes p (x ∷ xs) = by (p x) refl (filter_passes p xs)
   where
@@ -61,7 +61,7 @@ token_has P test ps token all at = (
   found_has (λ p. is_token p ≡ true) test (filter is_token ps) token (filter_passes is_token ps) at,
 )
 
-no_white : (p : Piece) → is_token p ≡ true → p.kind ≡ White → ⊥
+pub no_white : (p : Piece) → is_token p ≡ true → p.kind ≡ White → ⊥
 no_white p token white =
     let other : is_token_class p.kind ≡ false = ap is_token_class white in
     true≢false (sym token ∙ other)
@@ -71,7 +71,7 @@ unfolding is_white
 is_white_lf b is = ap is_white is
 
 module _ (text : List ℕ) (laws : TokenLaws text) where
-  white_at : (p : Piece) → HasItsClass text p → WhiteAtLf text p
+  pub white_at : (p : Piece) → HasItsClass text p → WhiteAtLf text p
   white_at p class at =
       let inside : p.start < length text = slice_get_within text p.start 10 at in
       let same : p.start + 0 ≡ p.start = omega arith in
@@ -82,7 +82,7 @@ module _ (text : List ℕ) (laws : TokenLaws text) where
       class.kind ∙ laws.white (drop p.start text) some
       (is_white_lf (slice_index (drop p.start text) 0) first)
 
-  abbrev IsKnown : Piece → Type 0
+  abbrev pub IsKnown : Piece → Type 0
   IsKnown p = HoldsCharacters text p × HasItsClass text p
 
   token_known : (offset : ℕ) (token : Piece) → token_at text offset ≡ Some token →

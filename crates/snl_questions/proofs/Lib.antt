@@ -21,3 +21,5 @@ mod DeclaredStates
 mod Lines
 mod Wakes
 mod OwnReference
+mod Faults
+mod FaultPlaces

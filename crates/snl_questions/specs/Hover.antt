@@ -4,7 +4,7 @@ use Rattle.std.specs.Prelude.{ℕ, ◌+◌, ◌-◌, ◌==◌, ◌&&◌, Bool, n
 use Rattle.std.specs.Char.{is_ascii_whitespace}
 use Rattle.std.specs.Fmt.Cut.{floor_char_boundary}
 use Rattle.std.specs.List.{concat, flat_map, join_with_byte, prefix_len, suffix_len}
-use Rattle.std.specs.Option.{option_map_or}
+use Rattle.std.specs.Option.{option_map_or, option_or}
 use Rattle.snl_place.specs.Lines.{line_around}
 use Rattle.snl_tables.specs.declared.rows.ChannelRow.{ChannelRow}
 use Rattle.snl_tables.specs.declared.rows.FlagRow.{FlagRow}
@@ -19,7 +19,8 @@ use Rattle.snl_tables.specs.WakeSets.{channels_of, wake_channels, wake_flags}
 use Rattle.snl_listing.specs.Listing.{mark_text}
 use Rattle.snl_kept.specs.Tables.{tables_in}
 use Rattle.snl_questions.specs.declared.meanings.near.Meaning.{Meaning}
-use Rattle.snl_questions.specs.Meanings.{meaning_near, span_bytes}
+use Rattle.snl_questions.specs.Meanings.{meaning_of, span_bytes}
+use Rattle.snl_questions.specs.FaultNotes.{FaultTold, fault_noted}
 use Rattle.snl_questions.specs.declared.hovers.near.Hover.{Hover}
 use Rattle.snl_questions.specs.declared.hovers.states.Waker.{Waker}
 use Rattle.snl_questions.specs.declared.hovers.states.Waker.TheVariants.{Flag, Channel}
@@ -214,6 +215,25 @@ told_of hover = record { name = hover.name; bytes = hover.lines.items }
 abbrev pub hover_over : List ℕ → Meaning → Told
 hover_over text m = record { name = m.name; bytes = join_with_byte 10 (lines_of text m) }
 
--- The hover of the name near an offset of a text; there is none where that means nothing.
+-- The hover of the name that has the byte at an offset of a text, if it means something.
+abbrev pub named_at : List ℕ → (offset : ℕ) → Option Told
+named_at text offset = option_map (hover_over text) (meaning_of text offset)
+
+-- The hover of the token that is at fault there: its note, on a line.
+abbrev pub hover_by_note : FaultTold → Told
+hover_by_note note = record { name = note.token; bytes = note.words }
+
+abbrev pub noted_at : List ℕ → (offset : ℕ) → Option Told
+noted_at text offset = option_map hover_by_note (fault_noted text offset)
+
+-- What is said of the token that has the byte: its note, where it is at fault.
+unfoldable pub hover_at : List ℕ → (offset : ℕ) → Option Told
+hover_at text offset = option_or (noted_at text offset) (named_at text offset)
+
+abbrev pub hover_before : List ℕ → (offset : ℕ) → Option Told
+hover_before text offset = if offset == 0 then None else hover_at text (offset - 1)
+
+-- The cursor's rule: a cursor right after a token is on that token, unless something is said of the
+-- one at the cursor.
 unfoldable pub hover_of : List ℕ → (offset : ℕ) → Option Told
-hover_of text offset = option_map (hover_over text) (meaning_near text offset)
+hover_of text offset = option_or (hover_at text offset) (hover_before text offset)

@@ -8,4 +8,5 @@ pub mod MentionLaws
 pub mod Slots
 pub mod Symbols
 pub mod Extents
+pub mod FaultNotes
 pub mod Hover

@@ -2,10 +2,12 @@
 //! changes nothing, keeps nothing, and knows nothing of messages, nor of how places are counted.
 //! Each subject has a room: `tokens` has the token at an offset and those of an item, `meanings`
 //! what a name means, `mentions` where it is named, `document_symbols` what an outline of the text
-//! shows, and `hovers` what is said of a name.
+//! shows, `fault_notes` what may come at a token at fault, and `hovers` what is said of a name or of
+//! such a token.
 #![tactic(auto)]
 
 mod document_symbols;
+mod fault_notes;
 mod hovers;
 mod meanings;
 mod mentions;
@@ -14,6 +16,8 @@ mod tokens;
 pub use document_symbols::laws::{children_lie_in_parents, names_lie_in_extents};
 pub use document_symbols::symbol::{DocumentSymbol, DocumentSymbolKind};
 pub use document_symbols::text_symbols::symbols;
+pub use fault_notes::laws::faults_have_notes;
+pub use fault_notes::note_at::{FaultNote, fault_note_of, note_at};
 pub use hovers::near::{Hover, hover_at};
 pub use meanings::items::{TokenPlace, span_bytes};
 pub use meanings::laws::names_mean_their_like;

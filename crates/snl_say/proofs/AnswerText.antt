@@ -11,7 +11,7 @@ use Rattle.snl_say.specs.declared.answers.ErrorCode.TheVariants.{ParseError, Inv
 use Rattle.snl_place.specs.declared.places.Encoding.{Encoding}
 use Rattle.snl_place.specs.declared.places.Encoding.TheVariants.{Utf8, Utf16}
 use Rattle.snl_place.specs.declared.places.Place.{Place}
-use Rattle.snl_say.specs.Answers.{error_data, error_text, hover_data, hover_head, hover_text, initialize_data, initialize_head, initialize_text, location_data, location_text, location_with, null_data, null_text, providers_text, server_text, sync_text}
+use Rattle.snl_say.specs.Answers.{error_data, error_text, hover_data, hover_head, hover_text, initialize_data, initialize_head, initialize_text, later_providers_text, location_data, location_text, location_with, null_data, null_text, providers_text, server_text, sync_text}
 use Rattle.snl_say.specs.Places.{range_text}
 use Rattle.snl_say.proofs.PlaceText.{range_same}
 use Rattle.snl_say.proofs.PublishText.{closed}
@@ -22,8 +22,8 @@ null_same id = refl
 
 pub initialize_same : (id : Data) (encoding : Encoding) →
     compact_text (initialize_data id encoding) ≡ initialize_text id encoding
-unfolding json_on_literals digits initialize_head providers_text sync_text server_text
-    initialize_text
+unfolding json_on_literals digits initialize_head providers_text later_providers_text sync_text
+    server_text initialize_text
 initialize_same id Utf8 = refl
 initialize_same id Utf16 = refl
 

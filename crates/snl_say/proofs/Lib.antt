@@ -4,6 +4,7 @@ pub mod EscapeRuns
 pub mod ItemText
 pub mod Nesting
 pub mod ParentSteps
+pub mod PartText
 pub mod PlaceText
 pub mod PublishText
 pub mod SymbolText

@@ -1,6 +1,6 @@
 -- The bytes of what is published, and of a message that is shown, are the text of the value.
 use Rattle.std.specs.Prelude.{codes, decimal}
-use Rattle.std.proofs.Common.{◌≡◌, ℕ, true, false, List, map, [], ◌∷◌, ◌++◌, Option, Some, None, refl, sym, ap, ap₂, ◌∙◌, append_assoc}
+use Rattle.std.proofs.Common.{◌≡◌, ℕ, true, false, List, [], ◌∷◌, ◌++◌, Option, Some, None, refl, sym, ap, ap₂, ◌∙◌, append_assoc}
 use Rattle.std.specs.Fmt.{digits}
 use Rattle.std.specs.List.{flat_map}
 use Rattle.json.proofs.OnLiterals.{json_on_literals}

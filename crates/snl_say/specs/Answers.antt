@@ -49,10 +49,12 @@ sync_data =
 abbrev pub capabilities_data : Encoding → Data
 capabilities_data encoding =
     object (member (codes "definitionProvider") (boolean true)
+    (member (codes "documentHighlightProvider") (boolean true)
     (member (codes "documentSymbolProvider") (boolean true)
     (member (codes "hoverProvider") (boolean true)
     (member (codes "positionEncoding") (string (encoding_name encoding))
-    (member (codes "textDocumentSync") sync_data no_members)))))
+    (member (codes "referencesProvider") (boolean true)
+    (member (codes "textDocumentSync") sync_data no_members)))))))
 
 abbrev pub server_data : Data
 server_data = object (member (codes "name") (string (codes "snl_lsp")) no_members)
@@ -124,14 +126,19 @@ null_text id =
 unfoldable pub initialize_head : List ℕ
 initialize_head = codes ",\"jsonrpc\":\"2.0\",\"result\":{\"capabilities\":{"
 
--- The requests on a document that are answered.
+-- The requests on a document that are answered, up to the encoding.
 unfoldable pub providers_text : List ℕ
 providers_text =
-    codes "\"definitionProvider\":true,\"documentSymbolProvider\":true,\"hoverProvider\":true"
+    concat (codes "\"definitionProvider\":true,\"documentHighlightProvider\":true,"
+    ∷ codes "\"documentSymbolProvider\":true,\"hoverProvider\":true" ∷ [])
 
 abbrev pub encoding_text : Encoding → List ℕ
 encoding_text Utf8 = codes ",\"positionEncoding\":\"utf-8\""
 encoding_text Utf16 = codes ",\"positionEncoding\":\"utf-16\""
+
+-- Those after the encoding.
+unfoldable pub later_providers_text : List ℕ
+later_providers_text = codes ",\"referencesProvider\":true"
 
 unfoldable pub sync_text : List ℕ
 sync_text = codes ",\"textDocumentSync\":{\"change\":2,\"openClose\":true}}"
@@ -142,7 +149,7 @@ server_text = codes ",\"serverInfo\":{\"name\":\"snl_lsp\"}}}"
 unfoldable pub initialize_text : (id : Data) → Encoding → List ℕ
 initialize_text id encoding =
     concat (codes "{\"id\":" ∷ compact_text id ∷ initialize_head ∷ providers_text
-    ∷ encoding_text encoding ∷ sync_text ∷ server_text ∷ [])
+    ∷ encoding_text encoding ∷ later_providers_text ∷ sync_text ∷ server_text ∷ [])
 
 -- By the URI as a string of JSON, quotes included.
 unfoldable pub location_with : (id : Data) → (quoted_uri : List ℕ) → (start stop : Place) → List ℕ

@@ -3,6 +3,7 @@ pub mod Answers
 pub mod Items
 pub mod Notices
 pub mod Parents
+pub mod Parts
 pub mod Places
 pub mod Publish
 pub mod Symbols

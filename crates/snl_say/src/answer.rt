@@ -9,6 +9,7 @@ ghost use Rattle.snl_say.specs.Answers.{id_data};
 use crate::answers::{Id, put_null};
 use crate::hover::put_hover;
 use crate::location::put_location;
+use crate::parts::{put_locations, put_ranges};
 use crate::symbols::{ShownSymbol, put_symbols};
 use snl_place::Place;
 use std::alloc::AllocError;
@@ -31,6 +32,10 @@ pub enum Answer<'a> {
     },
     /// Symbols of the document, in its order, each with its depth.
     Symbols(Vec<ShownSymbol<'a>>),
+    /// Parts of the document, each from a place up to another one.
+    Locations(Vec<(Place, Place)>),
+    /// The same, by their ranges alone: whoever asks knows of which document they are.
+    Ranges(Vec<(Place, Place)>),
 }
 
 /// An answer. `quoted_uri` is the URI of the document as `put_quoted` writes it. An `Err`, of
@@ -53,5 +58,7 @@ pub fn put_answer(
             stop,
         } => put_hover(out, id, contents, *start, *stop),
         Answer::Symbols(symbols) => put_symbols(out, id, symbols),
+        Answer::Locations(parts) => put_locations(out, id, quoted_uri, parts),
+        Answer::Ranges(parts) => put_ranges(out, id, parts),
     }
 }

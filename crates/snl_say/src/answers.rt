@@ -8,9 +8,9 @@ ghost use Rattle.std.specs.Fmt.{signed_decimal};
 ghost use Rattle.json.specs.Print.{quoted};
 ghost use Rattle.serde_json.specs.Data.{Data};
 ghost use Rattle.serde_json.specs.Written.{compact_text};
-ghost use Rattle.snl_say.specs.Answers.{encoding_text, error_text, failure_text, id_data, initialize_head, initialize_text, null_text, providers_text, server_text, some_id_data, sync_text};
+ghost use Rattle.snl_say.specs.Answers.{encoding_text, error_text, failure_text, id_data, initialize_head, initialize_text, later_providers_text, null_text, providers_text, server_text, some_id_data, sync_text};
 
-use crate::bytes::put_quoted;
+use crate::bytes::{put_all, put_quoted};
 use itoa::Buffer;
 use snl_place::Encoding;
 use std::alloc::AllocError;
@@ -89,12 +89,18 @@ fn initialize_head() -> &'static [u8]
     b",\"jsonrpc\":\"2.0\",\"result\":{\"capabilities\":{"
 }
 
-/// The requests on a document that are answered.
+/// The requests on a document that are answered, up to the encoding.
 #[tactic(auto, unfolding(crate::specs::Answers::providers_text))]
-fn providers_text() -> &'static [u8]
-    ensures { result.now ≡ providers_text }
+fn put_providers(out: &mut Vec<u8>) -> Result<(), AllocError>
+    ensures { OnOk result (out.new.items ≡ out.old.items ++ providers_text) }
 {
-    b"\"definitionProvider\":true,\"documentSymbolProvider\":true,\"hoverProvider\":true"
+    put_all(
+        out,
+        &[
+            b"\"definitionProvider\":true,\"documentHighlightProvider\":true,",
+            b"\"documentSymbolProvider\":true,\"hoverProvider\":true",
+        ],
+    )
 }
 
 fn encoding_text(encoding: Encoding) -> &'static [u8]
@@ -104,6 +110,14 @@ fn encoding_text(encoding: Encoding) -> &'static [u8]
         Encoding::Utf8 => b",\"positionEncoding\":\"utf-8\"",
         Encoding::Utf16 => b",\"positionEncoding\":\"utf-16\"",
     }
+}
+
+/// The requests after the encoding.
+#[tactic(auto, unfolding(crate::specs::Answers::later_providers_text))]
+fn later_providers_text() -> &'static [u8]
+    ensures { result.now ≡ later_providers_text }
+{
+    b",\"referencesProvider\":true"
 }
 
 /// Documents are opened and closed, and changed by ranges.
@@ -122,8 +136,8 @@ fn server_text() -> &'static [u8]
 }
 
 /// The answer to `initialize`: documents are opened, changed by ranges and closed, the characters
-/// of a line are counted so, and symbols, definitions and hovers may be asked for. An `Err`, of
-/// memory, may leave a front of the bytes.
+/// of a line are counted so, and symbols, definitions, hovers, references and highlights may be asked
+/// for. An `Err`, of memory, may leave a front of the bytes.
 #[tactic(auto, unfolding(crate::specs::Answers::initialize_text))]
 pub fn put_initialize(out: &mut Vec<u8>, id: Id<'_>, encoding: Encoding) -> Result<(), AllocError>
     ensures { OnOk result (out.new.items ≡ out.old.items
@@ -132,8 +146,9 @@ pub fn put_initialize(out: &mut Vec<u8>, id: Id<'_>, encoding: Encoding) -> Resu
     out.extend_from_slice(b"{\"id\":")?;
     put_id(out, id)?;
     out.extend_from_slice(initialize_head())?;
-    out.extend_from_slice(providers_text())?;
+    put_providers(out)?;
     out.extend_from_slice(encoding_text(encoding))?;
+    out.extend_from_slice(later_providers_text())?;
     out.extend_from_slice(sync_text())?;
     out.extend_from_slice(server_text())?;
     Ok(())

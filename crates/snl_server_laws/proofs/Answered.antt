@@ -5,7 +5,7 @@ use Rattle.std.specs.Option.{option_map_or, option_to_list}
 use Rattle.std.proofs.lemmas.List.Elements.{All-append, All-cons, All-head, All-nil, All-tail, filter_map-append}
 use Rattle.serde_json.specs.Data.{Data, null}
 use Rattle.snl_place.specs.declared.places.Encoding.{Encoding}
-use Rattle.snl_say.specs.Answered.{Answered, Nothing, Location, Hover, Symbols}
+use Rattle.snl_say.specs.Answered.{Answered, Nothing, Location, Hover, Symbols, Locations, Ranges}
 use Rattle.snl_say.specs.declared.answers.ErrorCode.TheVariants as error
 use Rattle.snl_hear.specs.Heard.{Heard, NoJson, NoMessage, Response, Request, Notification}
 use Rattle.snl_hear.specs.Notifications.{Noted, Initialized, Exit, DidOpen, DidChange, DidClose, InvalidParams, Other}
@@ -33,6 +33,8 @@ answered_id id uri Nothing = refl
 answered_id id uri (Location start stop) = refl
 answered_id id uri (Hover contents start stop) = refl
 answered_id id uri (Symbols symbols) = refl
+answered_id id uri (Locations parts) = refl
+answered_id id uri (Ranges parts) = refl
 
 of_id : (says : Says) (encoding : Encoding) (id : Data) (query : Query) (doc : Doc) →
     id_of (answer_of says encoding id query doc) ≡ Some id

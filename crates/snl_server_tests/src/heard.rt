@@ -66,7 +66,7 @@ static NEOVIM: [(&[u8], &str); 9] = [
 ];
 
 // As eglot sends them: changes gathered, and `null` for no parameters.
-static EGLOT: [(&[u8], &str); 6] = [
+static EGLOT: [(&[u8], &str); 8] = [
     (
         b"{\"jsonrpc\":\"2.0\",\"method\":\"textDocument/didOpen\",\"params\":{\"textDocument\":{\"uri\":\"file:///p.stt\",\"version\":0,\"languageId\":\"snl\",\"text\":\"int x;\\n\"}}}",
         "opened file:///p.stt 0 'int x;\n' ",
@@ -82,6 +82,14 @@ static EGLOT: [(&[u8], &str); 6] = [
     (
         b"{\"jsonrpc\":\"2.0\",\"id\":3,\"method\":\"textDocument/definition\",\"params\":{\"textDocument\":{\"uri\":\"file:///p.stt\"},\"position\":{\"line\":2,\"character\":24}}}",
         "3 file:///p.stt Definition(Place { line: 2, character: 24 }) ",
+    ),
+    (
+        b"{\"jsonrpc\":\"2.0\",\"id\":4,\"method\":\"textDocument/references\",\"params\":{\"textDocument\":{\"uri\":\"file:///p.stt\"},\"position\":{\"line\":2,\"character\":24},\"context\":{\"includeDeclaration\":false}}}",
+        "4 file:///p.stt References { place: Place { line: 2, character: 24 }, includes_declaration: false } ",
+    ),
+    (
+        b"{\"jsonrpc\":\"2.0\",\"id\":4,\"method\":\"textDocument/documentHighlight\",\"params\":{\"textDocument\":{\"uri\":\"file:///p.stt\"},\"position\":{\"line\":2,\"character\":24}}}",
+        "4 file:///p.stt Highlights(Place { line: 2, character: 24 }) ",
     ),
     (
         b"{\"jsonrpc\":\"2.0\",\"id\":5,\"method\":\"shutdown\",\"params\":null}",
@@ -190,7 +198,7 @@ fn tells_ids_and_encodings(rt: HostRuntime) -> Result<(), Fail> {
 }
 
 // Parameters that do not fit, and methods that there are not.
-static MISFITS: [(&[u8], &str); 17] = [
+static MISFITS: [(&[u8], &str); 19] = [
     (
         b"{\"id\":1,\"method\":\"textDocument/hover\"}",
         "1 invalid params ",
@@ -205,6 +213,14 @@ static MISFITS: [(&[u8], &str); 17] = [
     ),
     (
         b"{\"id\":1,\"method\":\"textDocument/documentSymbol\",\"params\":[\"u\"]}",
+        "1 invalid params ",
+    ),
+    (
+        b"{\"id\":1,\"method\":\"textDocument/references\",\"params\":{\"textDocument\":{\"uri\":\"u\"},\"position\":{\"line\":1,\"character\":0}}}",
+        "1 invalid params ",
+    ),
+    (
+        b"{\"id\":1,\"method\":\"textDocument/references\",\"params\":{\"textDocument\":{\"uri\":\"u\"},\"position\":{\"line\":1,\"character\":0},\"context\":{\"includeDeclaration\":\"true\"}}}",
         "1 invalid params ",
     ),
     (

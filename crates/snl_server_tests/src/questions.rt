@@ -7,15 +7,16 @@ use std::test::Fail;
 
 // The answers to `initialize`, as it is sent in the rows of these tests.
 const INITIALIZED_IN_UTF_8: &str =
-    "{\"id\":0,\"jsonrpc\":\"2.0\",\"result\":{\"capabilities\":{\"definitionProvider\":true,\"documentSymbolProvider\":true,\"hoverProvider\":true,\"positionEncoding\":\"utf-8\",\"textDocumentSync\":{\"change\":2,\"openClose\":true}},\"serverInfo\":{\"name\":\"snl_lsp\"}}}\n";
+    "{\"id\":0,\"jsonrpc\":\"2.0\",\"result\":{\"capabilities\":{\"definitionProvider\":true,\"documentHighlightProvider\":true,\"documentSymbolProvider\":true,\"hoverProvider\":true,\"positionEncoding\":\"utf-8\",\"referencesProvider\":true,\"textDocumentSync\":{\"change\":2,\"openClose\":true}},\"serverInfo\":{\"name\":\"snl_lsp\"}}}\n";
 
 pub const INITIALIZED_IN_UTF_16: &str =
-    "{\"id\":1,\"jsonrpc\":\"2.0\",\"result\":{\"capabilities\":{\"definitionProvider\":true,\"documentSymbolProvider\":true,\"hoverProvider\":true,\"positionEncoding\":\"utf-16\",\"textDocumentSync\":{\"change\":2,\"openClose\":true}},\"serverInfo\":{\"name\":\"snl_lsp\"}}}\n";
+    "{\"id\":1,\"jsonrpc\":\"2.0\",\"result\":{\"capabilities\":{\"definitionProvider\":true,\"documentHighlightProvider\":true,\"documentSymbolProvider\":true,\"hoverProvider\":true,\"positionEncoding\":\"utf-16\",\"referencesProvider\":true,\"textDocumentSync\":{\"change\":2,\"openClose\":true}},\"serverInfo\":{\"name\":\"snl_lsp\"}}}\n";
 
 // A message and the bodies that are answered to it, a line each. A document is opened, and its
-// symbols are asked for. Then, right after `x` in the condition: where that is declared, and what
-// it is. White space means nothing, and nor does the program's name. The last document isn't open.
-static QUESTIONS: [(&[u8], &str); 8] = [
+// symbols are asked for. Then, right after `x` in the condition: where that is declared, what it is,
+// and where it is named. White space means nothing, and nor does the program's name. The last
+// document isn't open.
+static QUESTIONS: [(&[u8], &str); 12] = [
     (
         b"{\"id\":0,\"method\":\"initialize\",\"params\":{\"capabilities\":{\"general\":{\"positionEncodings\":[\"utf-8\"]}}}}",
         INITIALIZED_IN_UTF_8,
@@ -35,6 +36,22 @@ static QUESTIONS: [(&[u8], &str); 8] = [
     (
         b"{\"id\":3,\"method\":\"textDocument/hover\",\"params\":{\"textDocument\":{\"uri\":\"f:p\"},\"position\":{\"line\":2,\"character\":24}}}",
         "{\"id\":3,\"jsonrpc\":\"2.0\",\"result\":{\"contents\":{\"kind\":\"plaintext\",\"value\":\"int x; assign x to \\\"v\\\"; monitor x;\\nchannel 0 \\\"v\\\" monitored\"},\"range\":{\"end\":{\"character\":24,\"line\":2},\"start\":{\"character\":23,\"line\":2}}}}\n",
+    ),
+    (
+        b"{\"id\":7,\"method\":\"textDocument/references\",\"params\":{\"context\":{\"includeDeclaration\":true},\"textDocument\":{\"uri\":\"f:p\"},\"position\":{\"line\":2,\"character\":24}}}",
+        "{\"id\":7,\"jsonrpc\":\"2.0\",\"result\":[{\"range\":{\"end\":{\"character\":5,\"line\":1},\"start\":{\"character\":4,\"line\":1}},\"uri\":\"f:p\"},{\"range\":{\"end\":{\"character\":15,\"line\":1},\"start\":{\"character\":14,\"line\":1}},\"uri\":\"f:p\"},{\"range\":{\"end\":{\"character\":33,\"line\":1},\"start\":{\"character\":32,\"line\":1}},\"uri\":\"f:p\"},{\"range\":{\"end\":{\"character\":24,\"line\":2},\"start\":{\"character\":23,\"line\":2}},\"uri\":\"f:p\"}]}\n",
+    ),
+    (
+        b"{\"id\":8,\"method\":\"textDocument/references\",\"params\":{\"context\":{\"includeDeclaration\":false},\"textDocument\":{\"uri\":\"f:p\"},\"position\":{\"line\":2,\"character\":24}}}",
+        "{\"id\":8,\"jsonrpc\":\"2.0\",\"result\":[{\"range\":{\"end\":{\"character\":15,\"line\":1},\"start\":{\"character\":14,\"line\":1}},\"uri\":\"f:p\"},{\"range\":{\"end\":{\"character\":33,\"line\":1},\"start\":{\"character\":32,\"line\":1}},\"uri\":\"f:p\"},{\"range\":{\"end\":{\"character\":24,\"line\":2},\"start\":{\"character\":23,\"line\":2}},\"uri\":\"f:p\"}]}\n",
+    ),
+    (
+        b"{\"id\":9,\"method\":\"textDocument/documentHighlight\",\"params\":{\"textDocument\":{\"uri\":\"f:p\"},\"position\":{\"line\":2,\"character\":37}}}",
+        "{\"id\":9,\"jsonrpc\":\"2.0\",\"result\":[{\"range\":{\"end\":{\"character\":14,\"line\":2},\"start\":{\"character\":13,\"line\":2}}},{\"range\":{\"end\":{\"character\":37,\"line\":2},\"start\":{\"character\":36,\"line\":2}}}]}\n",
+    ),
+    (
+        b"{\"id\":10,\"method\":\"textDocument/references\",\"params\":{\"context\":{\"includeDeclaration\":true},\"textDocument\":{\"uri\":\"f:p\"},\"position\":{\"line\":2,\"character\":6}}}",
+        "{\"id\":10,\"jsonrpc\":\"2.0\",\"result\":null}\n",
     ),
     (
         b"{\"id\":4,\"method\":\"textDocument/definition\",\"params\":{\"textDocument\":{\"uri\":\"f:p\"},\"position\":{\"line\":2,\"character\":6}}}",

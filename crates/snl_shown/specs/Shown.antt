@@ -2,20 +2,16 @@
 use Rattle.std.specs.Prelude.{ℕ, List, Option, Some, None, option_map}
 use Rattle.snl_place.specs.declared.places.Encoding.{Encoding}
 use Rattle.snl_place.specs.declared.places.Place.{Place}
-use Rattle.snl_tables.specs.declared.rows.Span.{Span}
 use Rattle.snl_questions.specs.Meanings.{meaning_near}
 use Rattle.snl_questions.specs.Hover.{Told, hover_of}
 use Rattle.snl_say.specs.Answered as answered
 use Rattle.snl_say.specs.Answered.{Answered, location_answer}
-use Rattle.snl_hear.specs.Requests.{Query, Symbols, Definition, Hover}
+use Rattle.snl_hear.specs.Requests.{Query, Symbols, Definition, Hover, References, Highlights}
 use Rattle.snl_document.specs.Says.{Says}
 use Rattle.snl_shown.specs.Found.{found_in}
-use Rattle.snl_shown.specs.Spans.{offset_at, start_of, stop_of}
+use Rattle.snl_shown.specs.References.{locations_answer, ranges_answer, references_at}
+use Rattle.snl_shown.specs.Spans.{offset_at, places_of, start_of, stop_of}
 use Rattle.snl_shown.specs.Symbols.{symbols_in}
-
--- Between which places a span of a text is.
-abbrev pub places_of : Encoding → (text : List ℕ) → Span → Place × Place
-places_of encoding text span = (start_of encoding text span, stop_of encoding text span)
 
 -- Where the name is declared that the name near a place means.
 abbrev pub declared_at : Encoding → (text : List ℕ) → Place → Option (Place × Place)
@@ -49,6 +45,10 @@ abbrev pub answer_in : Encoding → (text : List ℕ) → Query → Answered
 answer_in encoding text Symbols = answered.Symbols (symbols_in encoding text)
 answer_in encoding text (Definition place) = location_answer (declared_at encoding text place)
 answer_in encoding text (Hover place) = hover_answer (told_at encoding text place)
+answer_in encoding text (References place includes_declaration) =
+    locations_answer encoding text includes_declaration (references_at encoding text place)
+answer_in encoding text (Highlights place) =
+    ranges_answer encoding text (references_at encoding text place)
 
 -- All that the server tells of a text that a session checks.
 abbrev pub says_of_text : Says

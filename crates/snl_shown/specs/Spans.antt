@@ -18,3 +18,7 @@ start_of encoding text span = place_at encoding text span.start
 
 abbrev pub stop_of : Encoding → (text : List ℕ) → Span → Place
 stop_of encoding text span = place_at encoding text (span.start + span.len)
+
+-- Between which places a span of a text is.
+abbrev pub places_of : Encoding → (text : List ℕ) → Span → Place × Place
+places_of encoding text span = (start_of encoding text span, stop_of encoding text span)

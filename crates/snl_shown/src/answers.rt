@@ -8,6 +8,7 @@ ghost use Rattle.snl_hear.specs.Requests.{query_of};
 ghost use Rattle.snl_shown.specs.Shown.{answer_in};
 
 use crate::names::{definition_at, told_at};
+use crate::references::{locations_at, ranges_at};
 use crate::symbols::symbols_in;
 use snl_cut::OutOfMemory;
 use snl_hear::Question;
@@ -33,5 +34,10 @@ pub fn answer_in(
         }
         Question::Definition(place) => definition_at(alloc, encoding, session, place),
         Question::Hover(place) => told_at(alloc, encoding, session, place),
+        Question::References {
+            place,
+            includes_declaration,
+        } => locations_at(alloc, encoding, session, place, includes_declaration),
+        Question::Highlights(place) => ranges_at(alloc, encoding, session, place),
     }
 }

@@ -29,6 +29,8 @@ mod names;
 #[cfg(test)]
 mod nesting;
 #[cfg(test)]
+mod notes;
+#[cfg(test)]
 mod numbers;
 #[cfg(test)]
 mod pieces;

@@ -1,0 +1,4 @@
+pub mod Edits
+pub mod Moved
+pub mod Same
+pub mod Undone

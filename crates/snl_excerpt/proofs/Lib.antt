@@ -1,0 +1,5 @@
+pub mod ColumnLemmas
+pub mod ExcerptLemmas
+pub mod LeadingBack
+pub mod SafeLemmas
+pub mod ShownLemmas

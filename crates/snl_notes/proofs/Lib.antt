@@ -1,0 +1,4 @@
+mod Listed
+mod NearWords
+mod Shortened
+mod Texts

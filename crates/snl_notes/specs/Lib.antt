@@ -1,0 +1,4 @@
+pub mod Notes
+pub mod NoteLaws
+pub mod Near
+pub mod Words

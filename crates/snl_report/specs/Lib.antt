@@ -1,0 +1,10 @@
+pub mod Blocks
+pub mod Excerpted
+pub mod Extents
+pub mod Faults
+pub mod Formed
+pub mod Heads
+pub mod Noted
+pub mod Notes
+pub mod Paints
+pub mod Reports
