@@ -58,7 +58,7 @@ class Resolver:
 
     def finds(self, crate, path, outside, depth=0):
         """Whether a path in a crate leads to something."""
-        if depth > 8:
+        if depth > 40:
             return False
         module = []
         rest = list(path)
@@ -186,6 +186,10 @@ class Resolver:
             self.fault(name, f"Rattle.{'.'.join(told)}: what is {kind}?")
             return
         mods, handed = self.lib(crate, kind)
+        if rest == ["specs"]:
+            return
+        if len(rest) == 2 and rest[1] in handed:
+            return
         if len(rest) > 1 and rest[1] in handed:
             to = handed[rest[1]]
             return self.found_at(name, to[0], to[1:] + rest[2:], wanted, told)

@@ -58,10 +58,11 @@ def use_lines(leaves, indent, visible):
         else:
             groups.setdefault(tuple(path[:-1]), []).append((path[-1], name, False))
     lines = []
-    for module in sorted(groups, key=lambda it: sort_key(it)):
+    for module in groups:
         names = sorted({(n if not a else f"{n} as {a}") for n, a, _ in groups[module]})
         if module and len(names) > 1:
-            lines.append((module, f"{indent}{visible}use {'::'.join(module)}::{{{', '.join(names)}}};"))
+            lines.append(
+                (module + ("{",), f"{indent}{visible}use {'::'.join(module)}::{{{', '.join(names)}}};"))
         else:
             for it in names:
                 lines.append((module + (it,), f"{indent}{visible}use {'::'.join(module + (it,))};"))
@@ -99,6 +100,9 @@ class Lib:
         self.uses = [
             (m.group(2) or "", path, name) for m in uses for path, name in leaves_of(m.group(3))
         ]
+
+    def state(self):
+        return sorted(self.mods), sorted((v, p, n or "") for v, p, n in self.uses)
 
     def text(self):
         parts = [self.head]
@@ -368,6 +372,7 @@ class Move:
         tree = self.tree
         self.old_exports = {it: tree.exports(it) for it in tree.crates()}
         self.libs, self.todo_exports = {}, {}
+        self.used_in, self.used_out = set(), set()
         texts = {}
         for name, text in tree.files.items():
             m = re.match(r"crates/(\w+)/(src|specs|proofs)/", name)
@@ -376,6 +381,7 @@ class Move:
             elif isinstance(text, str) and name.endswith(".edit"):
                 texts[name] = self.edit(name, text)
         tree.files.update(texts)
+        self.pages_with_paths()
         self.move_exports()
         self.move_files()
         self.write_rooms()
@@ -426,7 +432,16 @@ class Move:
         return self.at(crate, path)[0] if path else self.crates.get(crate, crate)
 
     def leaf(self, crate, home, path):
-        """A path of a `use` or in code, after the move, as seen from a crate."""
+        """A path of a `use` or in code, after the move, as seen from a crate. Notes who uses it."""
+        new = self.leaf_of(crate, home, path)
+        if path[0] in self.old_exports and len(path) > 1:
+            if new[0] == "crate":
+                self.used_in.add((home, path[1]))
+            elif len(new) > 1:
+                self.used_out.add((new[0], new[1]))
+        return new
+
+    def leaf_of(self, crate, home, path):
         if path[0] == "crate":
             new, rest = self.at(crate, path[1:])
             if new == home:
@@ -442,11 +457,11 @@ class Move:
             new, rest = self.at(origin, path[1:])
             return [new, *rest]
         if of[0] in self.old_exports:
-            through = self.leaf(origin, target, of)
+            through = self.leaf_of(origin, target, of)
             if through[0] == "crate":
                 of_new, rest = target, through[1:]
             elif through[0] == home and home != target:
-                return self.leaf(crate, home, of + path[2:])
+                return self.leaf_of(crate, home, of + path[2:])
             elif target != home:
                 return [target, *path[1:]]
             else:
@@ -541,7 +556,7 @@ class Move:
             home = self.crates.get(crate, crate)
             for visible, path, name in lib.uses:
                 if path[0] in self.old_exports:
-                    new = self.leaf(crate, home, path)
+                    new = self.leaf_of(crate, home, path)
                 elif path[0] in ("std", "core") or path[0] not in tree.root_modules(crate):
                     new, home2 = list(path), home
                 else:
@@ -554,6 +569,9 @@ class Move:
                     new = new[1:]
                 if new[0] == home:
                     continue
+                told = home, name or path[-1]
+                if home != crate and told in self.used_in and told not in self.used_out:
+                    continue  # what the crate alone asked for that it goes into
                 outs.setdefault(home, []).append((visible, new, name))
         for crate, (into, mods) in self.roots.items():
             for name, path in self.old_exports[crate].items():
@@ -562,9 +580,7 @@ class Move:
         for crate, wanted in self.todo_exports.items():
             for name, path in wanted.items():
                 outs.setdefault(crate, []).append(("pub ", path, None))
-        changed = set(self.crates) | set(self.crates.values())
-        changed |= {it for it, _ in self.modules} | {it for it, _ in self.modules.values()}
-        kept = {}
+        kept, states = {}, {it: lib.state() for it, lib in libs.items()}
         for crate, lib in libs.items():
             home = self.crates.get(crate, crate)
             if home == crate or home not in libs:
@@ -578,9 +594,7 @@ class Move:
                 seen.add(key)
                 uses.append((visible, path, name))
             lib.uses = uses
-        for crate, lib in kept.items():
-            if crate in changed or True:
-                self.libs[crate] = lib
+        self.libs = kept
         for crate in list(self.libs):
             mods = []
             for old, lib in libs.items():
@@ -591,6 +605,9 @@ class Move:
             mods += [f"mod {room}" for (into, room) in self.rooms if into == crate]
             mods += [f"mod {path[0]}" for into, path in self.roots.values() if into == crate]
             self.libs[crate].mods = mods
+        same = [it for it, lib in kept.items() if states.get(it) == lib.state()]
+        for it in same:
+            del self.libs[it]
 
     def move_files(self):
         tree = self.tree
@@ -622,7 +639,7 @@ class Move:
             if path == ["lib"] or path == ["main"]:
                 if crate in self.roots:
                     new, mods = self.roots[crate]
-                    tree.files[name] = re.sub(r"^#!\[tactic\(auto\)\]\n\n?", "", tree.files[name], flags=re.M)
+                    tree.files[name] = re.sub(r"^#!\[tactic\(auto\)\]\n", "", tree.files[name], flags=re.M)
                     return f"crates/{new}/src/{'/'.join(mods)}.rt"
                 if home != crate and home in self.merged():
                     return None
@@ -639,7 +656,7 @@ class Move:
             new = self.dotted([crate, kind, *path])
             return f"crates/{new[0]}/{'/'.join(new[1:])}.antt"
         if rest == "PROOFS.md" and home != crate and home in self.merged():
-            return self.merge_page(name, home)
+            return self.merge_page(name, crate, home)
         return f"crates/{home}/{rest}"
 
     def edit_home(self, crate, name):
@@ -654,23 +671,46 @@ class Move:
         """Crates that other ones go into, and that were there before."""
         return {it for it in self.crates.values() if it in self.old_exports}
 
-    def merge_page(self, name, home):
+    def merge_page(self, name, crate, home):
         """The page of a crate that goes into another one: a part of that one's page."""
         tree, text = self.tree, self.tree.files[name]
         page = f"crates/{home}/PROOFS.md"
-        lines = text.strip("\n").split("\n")
-        title = re.sub(r"^#+ *", "", lines[0]) if lines[0].startswith("#") else ""
-        body = "\n".join(lines[1:] if title else lines).strip("\n")
+        room = next((mods[0] for (it, _), (_, mods) in self.modules.items() if it == crate and len(mods) > 1), None)
+        title = f"The room {room}" if room else crate.partition("_")[2].capitalize() + "s"
+        body = re.sub(r"\A#[^\n]*\n+", "", text).strip("\n")
         body = re.sub(r"^(#+) ", r"#\1 ", body, flags=re.M)
-        part = f"\n## {title}\n\n{body}\n"
+        part = f"\n## {title}\n\n{self.page_paths(body, [crate])}\n"
         self.pages = getattr(self, "pages", {})
         self.pages.setdefault(page, []).append(part)
         return None
 
+    def page_paths(self, text, crates):
+        """Files of code that a page names: those of these crates that moved."""
+        def file(m):
+            path = m.group(1).split("/")
+            for crate in crates:
+                if f"crates/{crate}/src/{m.group(1)}.rt" in self.tree.before_move:
+                    return f"src/{'/'.join(self.at(crate, path)[1])}.rt"
+            return m.group(0)
+
+        return re.sub(r"\bsrc/([\w/]+)\.rt\b", file, text)
+
+    def pages_with_paths(self):
+        """In pages, the files of code that are named beside their crate."""
+        for name, text in self.tree.files.items():
+            if not name.endswith(".md") or not isinstance(text, str) or name.endswith("PROOFS.md"):
+                continue
+            lines = text.split("\n")
+            for i, line in enumerate(lines):
+                named = [it for it in dict.fromkeys(WORDS.findall(line)) if it in self.old_exports]
+                if named and "src/" in line:
+                    lines[i] = self.page_paths(line, named)
+            self.tree.files[name] = "\n".join(lines)
+
     def write_rooms(self):
         tree = self.tree
         for (into, room), (doc, mods) in self.rooms.items():
-            text = doc + "\n" + "".join(f"pub(crate) mod {it};\n" for it in mods)
+            text = doc.rstrip("\n") + "\n\n" + "".join(f"pub(crate) mod {it};\n" for it in mods)
             name = f"crates/{into}/src/{room}.rt"
             assert name not in tree.files, name
             tree.files[name] = text
@@ -680,7 +720,8 @@ class Move:
             if tree.files.get(name) != text:
                 tree.files[name] = text
         for page, parts in getattr(self, "pages", {}).items():
-            tree.files[page] = tree.files.get(page, "") .rstrip("\n") + "\n" + "".join(parts)
+            title = f"# Proofs of {page.split('/')[1]}\n"
+            tree.files[page] = tree.files.get(page, title).rstrip("\n") + "\n" + "".join(parts)
 
     def move_lines(self):
         """The lines of Lib.antt."""
