@@ -47,7 +47,8 @@ def collections(tree):
     """Lists that change in place, numbers of names and numbers by keys in one crate."""
     new_crate(tree, "snl_collections", COLLECTIONS, "snl_lists")
     move = Move(tree)
-    move.whole("snl_lists", "snl_collections", "lists")
+    # an exported type and a lemma file of one name are refused
+    move.whole("snl_lists", "snl_collections", "lists", {("proofs", "Keys"): "StoredKeys"})
     move.whole("snl_names", "snl_collections", "names")
     move.whole("snl_numbers", "snl_collections", "numbers")
     carry_out(move)

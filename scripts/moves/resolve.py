@@ -268,6 +268,8 @@ class Resolver:
             if not root:
                 continue
             mods = set(self.tree.root_modules(crate))
+            for it in set(self.tree.exports(crate)) & self.lib(crate, "proofs")[0]:
+                self.fault(root, f"an export and a lemma file are named {it}")
             for it in self.tree.exports(crate):
                 path = self.tree.exports(crate)[it]
                 if it in mods and path != [it]:

@@ -71,16 +71,19 @@ def use_lines(leaves, indent, visible):
 
 def broken(line, indent):
     """A line that is too long, with its list on lines of its own."""
-    if len(line) <= 100 or "{" not in line:
+    if len(line) < 100 or "{" not in line:
         return line + "\n"
     front, _, rest = line.partition("{")
     lines, last = [], indent + "   "
     for name in rest.rsplit("}", 1)[0].split(", "):
-        if len(last) + len(name) + 2 > 100:
+        if len(last) + len(name) + 2 > 99:
             lines.append(last)
             last = indent + "   "
         last += f" {name},"
     return front + "{\n" + "\n".join(lines + [last]) + "\n" + indent + "};\n"
+
+
+MOD = re.compile(r"^((?:#\[[^\n]*\]\n)*(?:pub(?:\(crate\))? )?mod \w+);\n", re.M)
 
 
 class Lib:
@@ -88,9 +91,8 @@ class Lib:
 
     def __init__(self, text):
         uses = [m for m in USE.finditer(text)]
-        self.mods = re.findall(r"^((?:pub(?:\(crate\))? )?mod \w+);\n", text, re.M)
-        rest = USE.sub("", text)
-        rest = re.sub(r"^(?:pub(?:\(crate\))? )?mod \w+;\n", "", rest, flags=re.M)
+        self.mods = MOD.findall(text)
+        rest = MOD.sub("", USE.sub("", text))
         self.ghosts = re.findall(r"^ghost use .*;\n", rest, re.M)
         rest = re.sub(r"^ghost use .*;\n", "", rest, flags=re.M)
         at = rest.find("#![tactic(auto)]\n")
@@ -310,7 +312,8 @@ class Move:
             self.roots[crate] = into, front
         elif room:
             told = doc or "".join(re.findall(r"^//! ?.*\n", text, re.M))
-            self.rooms[into, room] = told, sorted(mods)
+            lines = [re.sub(r"(pub(\(crate\))? )?mod ", "pub(crate) mod ", it) for it in MOD.findall(text)]
+            self.rooms[into, room] = told, sorted(lines, key=lambda it: it.split()[-1])
         for kind in ("specs", "proofs"):
             for mod in tree.spec_modules(crate, kind):
                 new = names.get((kind, mod), mod)
@@ -601,8 +604,11 @@ class Move:
                 for it in lib.mods:
                     new, path = self.at(old, [it.split()[-1]])
                     if new == crate and len(path) == 1:
-                        mods.append(" ".join(it.split()[:-1] + [path[0]]))
-            mods += [f"mod {room}" for (into, room) in self.rooms if into == crate]
+                        mods.append(re.sub(r"\w+$", path[0], it))
+            for (into, room), (_, lines) in self.rooms.items():
+                if into == crate:
+                    tested = all(it.startswith("#[cfg(test)]") for it in lines)
+                    mods.append(("#[cfg(test)]\n" if tested else "") + f"mod {room}")
             mods += [f"mod {path[0]}" for into, path in self.roots.values() if into == crate]
             self.libs[crate].mods = mods
         same = [it for it, lib in kept.items() if states.get(it) == lib.state()]
@@ -695,6 +701,19 @@ class Move:
 
         return re.sub(r"\bsrc/([\w/]+)\.rt\b", file, text)
 
+    def line_paths(self, line):
+        """The files of code in a line of a page, each by the crate that has it and is named nearest."""
+        crates = [(m.start(), m.end(), m.group(1)) for m in WORDS.finditer(line) if m.group(1) in self.old_exports]
+
+        def file(m):
+            near = sorted(crates, key=lambda it: min(abs(it[1] - m.start()), abs(it[0] - m.end())))
+            for _, _, crate in near:
+                if f"crates/{crate}/src/{m.group(1)}.rt" in self.tree.before_move:
+                    return f"src/{'/'.join(self.at(crate, m.group(1).split('/'))[1])}.rt"
+            return m.group(0)
+
+        return re.sub(r"\bsrc/([\w/]+)\.rt\b", file, line)
+
     def pages_with_paths(self):
         """In pages, the files of code that are named beside their crate."""
         for name, text in self.tree.files.items():
@@ -702,15 +721,14 @@ class Move:
                 continue
             lines = text.split("\n")
             for i, line in enumerate(lines):
-                named = [it for it in dict.fromkeys(WORDS.findall(line)) if it in self.old_exports]
-                if named and "src/" in line:
-                    lines[i] = self.page_paths(line, named)
+                if "src/" in line and "snl_" in line:
+                    lines[i] = self.line_paths(line)
             self.tree.files[name] = "\n".join(lines)
 
     def write_rooms(self):
         tree = self.tree
         for (into, room), (doc, mods) in self.rooms.items():
-            text = doc.rstrip("\n") + "\n\n" + "".join(f"pub(crate) mod {it};\n" for it in mods)
+            text = doc.rstrip("\n") + "\n\n" + "".join(f"{it};\n" for it in mods)
             name = f"crates/{into}/src/{room}.rt"
             assert name not in tree.files, name
             tree.files[name] = text
@@ -841,8 +859,11 @@ def rename_in_texts(tree, table, folders=("docs/", "tests/", "bench/", "editors/
     for name, text in tree.files.items():
         if not isinstance(text, str) or not name.startswith(folders):
             continue
-        new = WORDS.sub(lambda m: table.get(m.group(1), m.group(1)), text)
-        if new != text and name.endswith(".md"):
+        # a table that was measured is of a commit, and names crates as they were then
+        parts = re.split(r"(<!-- gate: begin -->.*?<!-- gate: end -->)", text, flags=re.S)
+        parts[::2] = [WORDS.sub(lambda m: table.get(m.group(1), m.group(1)), it) for it in parts[::2]]
+        new = "".join(parts)
+        if new != text and name.endswith(".md") and not name.endswith("GATE.md"):
             for it in set(table.values()):
                 new = re.sub(rf"\b{it}(?:(?:, | and |, and ){it}\b)+", it, new)
         if new != text:
