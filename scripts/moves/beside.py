@@ -25,15 +25,15 @@ findings. No program is built on them."""
 def text_laws(tree):
     joined(
         tree, "snl_text_laws", LAWS,
-        {"snl_token_laws": "tokens", "snl_item_laws": "items", "snl_table_laws": "tables",
-         "snl_finding_laws": "findings"}, "snl_finding_laws",
+        {"snl_token_laws": "token_laws", "snl_item_laws": "item_laws", "snl_table_laws": "table_laws",
+         "snl_finding_laws": "finding_laws"}, "snl_finding_laws",
         {("snl_item_laws", "proofs", "Told"): "ToldLeaves"})
 
 
 def server_laws(tree):
     move = Move(tree)
-    move.whole("snl_outline_laws", "snl_server_laws", "outlines")
-    move.whole("snl_published_laws", "snl_server_laws", "published")
+    move.whole("snl_outline_laws", "snl_server_laws", "outline_laws")
+    move.whole("snl_published_laws", "snl_server_laws", "published_laws")
     carry_out(move)
     relist(tree)
     rename_in_texts(tree, {it: "snl_server_laws" for it in ("snl_outline_laws", "snl_published_laws")})

@@ -64,7 +64,8 @@ listed or named."""
 def scope(tree):
     move = Move(tree)
     move.whole("snl_summary", "snl_scope", "summaries")
-    move.whole("snl_views", "snl_scope", "views")
+    # a room and a lemma file whose names differ in case alone may be refused
+    move.whole("snl_views", "snl_scope", "views", {("proofs", "Views"): "ViewsAlike"})
     carry_out(move)
     relist(tree)
     rename_in_texts(tree, {"snl_summary": "snl_scope", "snl_views": "snl_scope"})

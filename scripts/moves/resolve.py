@@ -268,6 +268,12 @@ class Resolver:
             if not root:
                 continue
             mods = set(self.tree.root_modules(crate))
+            for kind in ("specs", "proofs"):
+                front = f"crates/{crate}/{kind}/"
+                there = {it[len(front):].split("/")[0].removesuffix(".antt") for it in self.files if it.startswith(front)}
+                for it in there:
+                    if it != it.lower() and it.lower() in there:
+                        self.fault(root, f"{kind} has {it} and {it.lower()}")
             for it in set(self.tree.exports(crate)) & self.lib(crate, "proofs")[0]:
                 self.fault(root, f"an export and a lemma file are named {it}")
             for it in self.tree.exports(crate):

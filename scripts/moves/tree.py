@@ -356,6 +356,9 @@ class Move:
         if not rest:
             return [self.crates.get(crate, crate)]
         kind = rest[0]
+        if kind == "specs" and len(rest) > 1 and rest[1] in self.old_exports:
+            inner = self.dotted([rest[1], "specs", *rest[2:]])
+            return [self.crates.get(crate, crate), "specs", inner[0], *inner[2:]]
         if kind == "specs" and rest[1:2] in (("declared",), ("contracts",)):
             new, path = self.at(crate, rest[2:])
             return [new, "specs", rest[1], *path]
@@ -384,6 +387,11 @@ class Move:
             elif isinstance(text, str) and name.endswith(".edit"):
                 texts[name] = self.edit(name, text)
         tree.files.update(texts)
+        for (crate, old), (into, new) in self.modules.items():
+            if len(old) > 1 and old[-1] != new[-1]:
+                outer = f"crates/{crate}/src/{'/'.join(old[:-1])}.rt"
+                tree.files[outer] = re.sub(
+                    rf"^((?:pub(?:\(crate\))? )?mod ){old[-1]};$", rf"\g<1>{new[-1]};", tree.files[outer], flags=re.M)
         self.pages_with_paths()
         self.move_exports()
         self.move_files()
@@ -445,6 +453,10 @@ class Move:
         return new
 
     def leaf_of(self, crate, home, path):
+        # crates that are handed on, by their names
+        handed = [it in self.old_exports for it in path]
+        if handed[0] and (len(path) == 1 or handed[1]) or path[0] == "crate" and handed[1:2] == [True]:
+            return [self.crates.get(it, it) for it in path]
         if path[0] == "crate":
             new, rest = self.at(crate, path[1:])
             if new == home:
@@ -699,7 +711,11 @@ class Move:
                     return f"src/{'/'.join(self.at(crate, path)[1])}.rt"
             return m.group(0)
 
-        return re.sub(r"\bsrc/([\w/]+)\.rt\b", file, text)
+        text = re.sub(r"\bsrc/([\w/]+)\.rt\b", file, text)
+        for (crate, kind, mods), (_, _, new) in self.specs.items():
+            if crate in crates and new != mods:
+                text = re.sub(rf"\b{mods[-1]}\b(?=\.antt|,| and|$)", new[-1], text)
+        return text
 
     def line_paths(self, line):
         """The files of code in a line of a page, each by the crate that has it and is named nearest."""
@@ -712,7 +728,11 @@ class Move:
                     return f"src/{'/'.join(self.at(crate, m.group(1).split('/'))[1])}.rt"
             return m.group(0)
 
-        return re.sub(r"\bsrc/([\w/]+)\.rt\b", file, line)
+        line = re.sub(r"\bsrc/([\w/]+)\.rt\b", file, line)
+        for (crate, kind, mods), (_, _, new) in self.specs.items():
+            if new != mods and any(it[2] == crate for it in crates):
+                line = re.sub(rf"\b{kind}/{mods[-1]}\.antt\b", f"{kind}/{new[-1]}.antt", line)
+        return line
 
     def pages_with_paths(self):
         """In pages, the files of code that are named beside their crate."""
@@ -721,7 +741,7 @@ class Move:
                 continue
             lines = text.split("\n")
             for i, line in enumerate(lines):
-                if "src/" in line and "snl_" in line:
+                if "snl_" in line and re.search("src/|specs/|proofs/", line):
                     lines[i] = self.line_paths(line)
             self.tree.files[name] = "\n".join(lines)
 
