@@ -4,7 +4,7 @@
 Usage: scripts/moves/merges.py [TOP]
 
 - snl_facts becomes snl_base, and has what all crates name: `OutOfMemory` and `Count`.
-- snl_lists, snl_names and snl_numbers become snl_collections.
+- snl_names and snl_numbers become snl_interner.
 - snl_summary and snl_views go into snl_scope, snl_moved into snl_check, snl_expression into
   snl_syntax.
 - snl_streams has the counted readers and writers that snl_script had, so that the server no longer
@@ -43,22 +43,21 @@ BASE = """\
 """
 
 
-def collections(tree):
-    """Lists that change in place, numbers of names and numbers by keys in one crate."""
-    new_crate(tree, "snl_collections", COLLECTIONS, "snl_lists")
+def interner(tree):
+    """Numbers of names and numbers by keys in one crate. Lists stay apart: snl_lex waits for them, and
+    for neither of these."""
+    new_crate(tree, "snl_interner", INTERNER, "snl_names")
     move = Move(tree)
-    # an exported type and a lemma file of one name are refused
-    move.whole("snl_lists", "snl_collections", "lists", {("proofs", "Keys"): "StoredKeys"})
-    move.whole("snl_names", "snl_collections", "names")
-    move.whole("snl_numbers", "snl_collections", "numbers")
+    move.whole("snl_names", "snl_interner", "names")
+    move.whole("snl_numbers", "snl_interner", "numbers")
     carry_out(move)
     relist(tree)
-    rename_in_texts(tree, {it: "snl_collections" for it in ("snl_lists", "snl_names", "snl_numbers")})
+    rename_in_texts(tree, {it: "snl_interner" for it in ("snl_names", "snl_numbers")})
 
 
-COLLECTIONS = """\
-Lists that change in place, numbers of names, and numbers by keys. It knows nothing of what is
-listed or named."""
+INTERNER = """\
+Numbers of names and of keys: each name, and each key, gets a number that it keeps. It knows nothing of
+what is named."""
 
 
 def scope(tree):
@@ -135,7 +134,7 @@ def words(tree):
 def main():
     top = sys.argv[1] if len(sys.argv) > 1 else os.getcwd()
     tree = Tree(top)
-    for step in (base, collections, scope, check, syntax, streams, words):
+    for step in (base, interner, scope, check, syntax, streams, words):
         step(tree)
         print(step.__name__, len(tree.crates()), "crates")
     tree.write()

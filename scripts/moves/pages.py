@@ -16,7 +16,7 @@ from tree import Tree
 ROWS = {
     "docs/CRATES.md": {
         "snl_base": "| facts on booleans, numbers and lists; two names or words; a growth that was refused; a count of work | lemmas that the proofs of several crates cite; whether the two are the same; the error that all crates have for want of memory | any definition of a crate |",
-        "snl_collections": "| a list, and what comes in the place of a part of it; names, one after another; keys with numbers | the same list, changed in place; the number of each name, which it keeps; the first number of each key | what is listed, named or numbered |",
+        "snl_interner": "| names, one after another; keys with numbers | the number of each name, which it keeps, and a copy of all; the first number of each key | what is named, what keys are |",
         "snl_syntax": "| the tokens of an item | its tree, or the token that no item can have; it hands on what snl_grammar says of tokens and trees | offsets, scopes |",
         "snl_scope": "| the tokens and the tree of each item | its summary; the links of all: where each item is, what names mean there, which clauses are sound, findings of order, names and clauses; which items see of the others after an edit what they saw | offsets, what an item does |",
         "snl_check": "| the items of a text, their links and what their checks gave; the targets of states; the items that an edit leaves | the tables; which states are reached; which rows stay after the edit, and which are shifted | how names are found |",
@@ -31,8 +31,7 @@ ROWS = {
 }
 
 ROOMS = """\
-| snl_collections | lists | lists of which a part is replaced in place |
-| | names | different names, each with a number that it keeps |
+| snl_interner | names | different names, each with a number that it keeps |
 | | numbers | numbers by keys |
 | snl_scope | summaries | what an item is, what it says to the others, and what it asks of them |
 | | views | which items see of the others after an edit what they saw |
@@ -63,7 +62,7 @@ Each command of `rt` adds up the files of the crates below along every path of t
 """
 
 GROUPS = {
-    "Lists and keys": "snl_base snl_cut snl_collections",
+    "Lists and keys": "snl_base snl_cut snl_lists snl_interner",
     "Pieces and lines": "snl_lex",
     "Items and trees": "snl_grammar snl_syntax snl_expected snl_items",
     "What names mean": "snl_codes snl_walk snl_scope",
