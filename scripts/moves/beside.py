@@ -3,7 +3,8 @@
 
 Usage: scripts/moves/beside.py [TOP]
 
-- snl_text_laws: the laws of a text (snl_token_laws, snl_item_laws, snl_table_laws, snl_finding_laws).
+- snl_text_laws: the laws of a text (snl_token_laws, snl_item_laws, snl_table_laws, snl_finding_laws, and
+  snl_report_laws, where it is there).
 - snl_server_laws: those of the server, with snl_outline_laws and snl_published_laws.
 - snl_server_tests, with snl_meaning_tests.
 - snl_jobs, with snl_keys: `snl_jobs keys` times keystrokes in the text of standard input. It stands
@@ -23,10 +24,10 @@ findings. No program is built on them."""
 
 
 def text_laws(tree):
+    rooms = ("token_laws", "item_laws", "table_laws", "finding_laws", "report_laws")
     joined(
         tree, "snl_text_laws", LAWS,
-        {"snl_token_laws": "token_laws", "snl_item_laws": "item_laws", "snl_table_laws": "table_laws",
-         "snl_finding_laws": "finding_laws"}, "snl_finding_laws",
+        {f"snl_{it}": it for it in rooms if f"snl_{it}" in tree.crates()}, "snl_finding_laws",
         {("snl_item_laws", "proofs", "Told"): "ToldLeaves"})
 
 

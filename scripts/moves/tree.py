@@ -844,7 +844,7 @@ def named_crates(tree, crate):
     """The crates that the sources of a crate name."""
     found = set()
     for name, text in tree.files.items():
-        if not isinstance(text, str):
+        if not name.startswith(f"crates/{crate}/") or not isinstance(text, str):
             continue
         if re.match(rf"crates/{crate}/src/.*\.rt$", name):
             plain = re.sub(r"//.*", "", text)
@@ -868,7 +868,8 @@ def relist(tree, crates=None):
     """Puts in each crate's line what its sources name, and no other crate."""
     listed = tree.crates()
     for crate in crates or list(listed):
-        own = [it for it in listed if it in named_crates(tree, crate)]
+        named = named_crates(tree, crate)
+        own = [it for it in listed if it in named]
         kit = [it for it in listed[crate] if it not in listed]
         tree.set_crate(crate, own + kit)
     tree.order_crates()
