@@ -69,7 +69,7 @@ GROUPS = {
     "What a text says": "snl_tables snl_listing snl_item_check snl_check",
     "A text under edit": "snl_kept snl_session",
     "The program": "snl_streams snl_script snl_run snl_cli snl_excerpt snl_report snl_reporter",
-    "The language server": "snl_transport snl_positions snl_messages snl_questions snl_alike snl_rename snl_server snl_shown snl_lsp",
+    "The language server": "snl_transport snl_positions snl_messages snl_questions snl_rename snl_server snl_shown snl_lsp",
     "Laws": "snl_text_laws snl_server_laws",
     "Tests and measures": "snl_reading snl_tests snl_rule_tests snl_session_tests snl_server_tests snl_edits snl_jobs",
 }

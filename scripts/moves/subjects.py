@@ -10,6 +10,7 @@ Usage: scripts/moves/subjects.py [TOP]
 - snl_messages: what is encoded, what is decoded, and replies (snl_say, snl_hear, snl_replies).
 - snl_server: documents and what is answered to which message (snl_document, snl_docs). snl_shown
   stays apart, as it alone of the server stands on the session.
+- snl_rename, with snl_alike, where these are there: nothing else asks whether a text says the same.
 """
 import os
 import re
@@ -80,6 +81,12 @@ def main():
     joined(
         tree, "snl_server", SERVER,
         {"snl_document": "documents", "snl_docs": "dispatch"}, "snl_document")
+    if {"snl_alike", "snl_rename"} <= set(tree.crates()):
+        move = Move(tree)
+        move.whole("snl_alike", "snl_rename", "alike")
+        carry_out(move)
+        relist(tree)
+        rename_in_texts(tree, {"snl_alike": "snl_rename"})
     print(len(tree.crates()), "crates")
     tree.write()
 
