@@ -83,7 +83,7 @@ def main():
         {"snl_document": "documents", "snl_docs": "dispatch"}, "snl_document")
     if {"snl_alike", "snl_rename"} <= set(tree.crates()):
         move = Move(tree)
-        move.whole("snl_alike", "snl_rename", "alike")
+        move.whole("snl_alike", "snl_rename", "same_text")
         carry_out(move)
         relist(tree)
         rename_in_texts(tree, {"snl_alike": "snl_rename"})
