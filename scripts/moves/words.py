@@ -174,6 +174,11 @@ class Words:
         if not found:
             self.left_out.append(f"{crate}::{'::'.join(module)}::{old}: is not there")
             return
+        # what tests expect as text, as a type writes it for debugging
+        found |= {
+            it for it, text in self.tree.files.items()
+            if re.match(r"crates/\w+_tests/src/.*\.rt$", it) and it not in other
+            and re.search(rf"(?<!\w){re.escape(old)}(?: \{{|\()", text) and old[:1].isupper()}
         declared = self.dotted_files(crate, "declared", module + [old], old)
         if spec:
             file = f"crates/{crate}/specs/{spec}.antt"
