@@ -258,6 +258,8 @@ class Resolver:
                     old = line[5:]
                     if old not in source:
                         self.fault(name, f"not in its file: {old}")
+                    elif source.count(old) > 1:
+                        self.fault(name, f"more than once in its file: {old}")
                 elif line.startswith("new: ") and source is not None and old is not None:
                     source = source.replace(old, line[5:], 1)
 
