@@ -1,5 +1,6 @@
 -- The shown line of a place, as characters, and the marks under it.
-use Rattle.std.specs.Prelude.{ℕ, ◌+◌, ◌-◌, Bool, List, [], ◌∷◌, ◌++◌, drop, min, replicate, codes, if◌then◌else◌}
+use Rattle.std.specs.Prelude.{ℕ, ◌+◌, ◌-◌, Bool, List, [], ◌∷◌, ◌++◌, drop, min, replicate, codes}
+use Rattle.std.specs.Prelude.{if◌then◌else◌}
 use Rattle.snl_excerpt.specs.declared.excerpt.Marks.{Marks}
 use Rattle.snl_excerpt.specs.Glyphs.{text_width}
 use Rattle.snl_excerpt.specs.Lines.{shown}

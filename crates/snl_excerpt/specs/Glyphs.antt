@@ -1,5 +1,7 @@
 -- How one character of a text is shown, as characters.
-use Rattle.std.specs.Prelude.{ℕ, ◌-◌, ◌/◌, ◌%◌, ◌==◌, ◌&&◌, ◌||◌, Bool, false, List, [], ◌∷◌, Option, Some, None, if◌then◌else◌, codes, slice_index, unwrap_or, sum_by, take}
+use Rattle.std.specs.Prelude.{ℕ, ◌-◌, ◌/◌, ◌%◌, ◌==◌, ◌&&◌, ◌||◌, Bool, false, List, [], ◌∷◌}
+use Rattle.std.specs.Prelude.{Option, Some, None, if◌then◌else◌, codes, slice_index, unwrap_or}
+use Rattle.std.specs.Prelude.{sum_by, take}
 use Rattle.std.specs.Char.{digit_char}
 use Rattle.std.specs.Int.{is_in_range}
 use Rattle.unicode_width.specs.Width.{char_width}
@@ -48,8 +50,8 @@ shown_char c = if is_hidden c then char_escape c else c ∷ []
 abbrev pub tab : (column : ℕ) → List ℕ
 tab column = take (8 - column % 8) (codes "        ")
 
--- What shows the character that bytes begin with, or the first of bytes that begin with none. The CR
--- before a line's end is not shown.
+-- What shows the character that bytes begin with, or the first of bytes that begin with none. The
+-- CR before a line's end is not shown.
 abbrev pub glyph_of : (column : ℕ) → (char : Option ℕ) → (bytes : List ℕ) → List ℕ
 glyph_of column None bytes = byte_escape (slice_index bytes 0)
 glyph_of column (Some c) bytes =

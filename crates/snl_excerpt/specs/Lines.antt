@@ -1,5 +1,6 @@
 -- How bytes of a text are shown, as characters.
-use Rattle.std.specs.Prelude.{ℕ, zero, suc, ◌+◌, ◌-◌, List, [], ◌∷◌, ◌++◌, length, Option, Some, None, encode_utf8_all}
+use Rattle.std.specs.Prelude.{ℕ, zero, suc, ◌+◌, ◌-◌, List, [], ◌∷◌, ◌++◌, length, Option, Some}
+use Rattle.std.specs.Prelude.{None, encode_utf8_all}
 use Rattle.bstr.specs.Utf8.{Decoded, decoded}
 use Rattle.snl_excerpt.specs.declared.glyph.Pen.{Pen}
 use Rattle.snl_excerpt.specs.Glyphs.{glyph_of, text_width}

@@ -1,5 +1,6 @@
 -- What laws say of characters that are shown, and of columns, in other words than the definitions.
-use Rattle.std.specs.Prelude.{◌≡◌, ◌≢◌, ℕ, ◌+◌, ◌-◌, ◌<◌, ◌≤◌, ◌⊎◌, List, All, drop, take, slice_index}
+use Rattle.std.specs.Prelude.{◌≡◌, ◌≢◌, ℕ, ◌+◌, ◌-◌, ◌<◌, ◌≤◌, ◌⊎◌, List, All, drop, take}
+use Rattle.std.specs.Prelude.{slice_index}
 
 -- The character is none of C0, DEL and C1.
 abbrev pub IsNoCommand : ℕ → Type 0
@@ -20,8 +21,8 @@ IsByte b = b < 256
 abbrev pub IsPrintable : ℕ → Type 0
 IsPrintable b = (32 ≤ b) × (b < 127)
 
--- The line of a place begins so many columns before it, less one: at the text's first byte, or after
--- an LF. No LF is between.
+-- The line of a place begins so many columns before it, less one: at the text's first byte, or
+-- after an LF. No LF is between.
 pub record LeadsBack (text : List ℕ) (offset column : ℕ) : Type 0 where
   pub some : 1 ≤ column
   pub inside : column ≤ offset + 1

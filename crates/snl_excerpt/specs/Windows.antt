@@ -1,5 +1,6 @@
 -- Which bytes of a line are shown: at most 80 before a place, and 120 from it on.
-use Rattle.std.specs.Prelude.{ℕ, ◌==◌, Bool, false, not, List, take, min, nat_lt, Option, Some, None, length, position, slice_get, unwrap_or, if◌then◌else◌}
+use Rattle.std.specs.Prelude.{ℕ, ◌==◌, Bool, false, not, List, take, min, nat_lt, Option, Some}
+use Rattle.std.specs.Prelude.{None, length, position, slice_get, unwrap_or, if◌then◌else◌}
 use Rattle.bstr.specs.Utf8.{continues}
 
 -- How many are shown before a place that has so many of its line before it.

@@ -3,8 +3,10 @@
 //! one place to the next only the bytes between them are looked at.
 //! Knows nothing of how a line is shown.
 
-ghost use Rattle.std.specs.Prelude.{◌≡◌, ℕ, List, ◌+◌, ◌==◌, ◌^◌, ◌<◌, ◌≤◌, if◌then◌else◌, length, min};
-ghost use Rattle.snl_excerpt.specs.Columns.{IsCursor, bytes_before, column_after, counted, counted_on};
+ghost use Rattle.std.specs.Prelude.{◌≡◌, ℕ, List, ◌+◌, ◌==◌, ◌^◌, ◌<◌, ◌≤◌, if◌then◌else◌, length};
+ghost use Rattle.std.specs.Prelude.{min};
+ghost use Rattle.snl_excerpt.specs.Columns.{IsCursor, bytes_before, column_after, counted};
+ghost use Rattle.snl_excerpt.specs.Columns.{counted_on};
 
 /// A place in a text, and how many bytes of its line are before it.
 #[derive(Clone, Copy, Debug, PartialEq, Eq)]

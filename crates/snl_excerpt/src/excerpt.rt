@@ -3,9 +3,12 @@
 //! which of its columns the marks are.
 //! A line costs no more than what is shown of it.
 
-ghost use Rattle.std.specs.Prelude.{◌≡◌, ℕ, ◌+◌, ◌-◌, ◌*◌, ◌^◌, ◌<◌, ◌≤◌, ◌++◌, ◌∷◌, [], Bool, if◌then◌else◌, codes, IfOk, OnOk, drop, encode_utf8_all, length, min, replicate};
+ghost use Rattle.std.specs.Prelude.{◌≡◌, ℕ, ◌+◌, ◌-◌, ◌*◌, ◌^◌, ◌<◌, ◌≤◌, ◌++◌, ◌∷◌, [], Bool};
+ghost use Rattle.std.specs.Prelude.{if◌then◌else◌, codes, IfOk, OnOk, drop, encode_utf8_all};
+ghost use Rattle.std.specs.Prelude.{length, min, replicate};
 ghost use Rattle.snl_excerpt.specs.Columns.{IsCursor};
-ghost use Rattle.snl_excerpt.specs.Excerpts.{back_line, dots_if, excerpt, front_line, marked_line, marks_of, marks_text, stop_column};
+ghost use Rattle.snl_excerpt.specs.Excerpts.{back_line, dots_if, excerpt, front_line, marked_line};
+ghost use Rattle.snl_excerpt.specs.Excerpts.{marks_of, marks_text, stop_column};
 ghost use Rattle.snl_excerpt.specs.Glyphs.{text_width};
 ghost use Rattle.snl_excerpt.specs.Windows.{after_count};
 

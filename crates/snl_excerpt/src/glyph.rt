@@ -3,9 +3,11 @@
 //! show it, after bytes that are there, and the column after them.
 //! Knows nothing of lines.
 
-ghost use Rattle.std.specs.Prelude.{◌≡◌, ℕ, ◌+◌, ◌-◌, ◌*◌, ◌%◌, ◌^◌, ◌<◌, ◌≤◌, ◌++◌, ◌∷◌, [], IfOk, IsTrue, OnOk, encode_utf8_all, length};
+ghost use Rattle.std.specs.Prelude.{◌≡◌, ℕ, ◌+◌, ◌-◌, ◌*◌, ◌%◌, ◌^◌, ◌<◌, ◌≤◌, ◌++◌, ◌∷◌, [], IfOk};
+ghost use Rattle.std.specs.Prelude.{IsTrue, OnOk, encode_utf8_all, length};
 ghost use Rattle.std.specs.Char.{digit_char};
-ghost use Rattle.snl_excerpt.specs.Glyphs.{byte_escape, char_escape, ends_line, glyph_of, is_hidden, shown_char, tab, text_width, width_of};
+ghost use Rattle.snl_excerpt.specs.Glyphs.{byte_escape, char_escape, ends_line, glyph_of};
+ghost use Rattle.snl_excerpt.specs.Glyphs.{is_hidden, shown_char, tab, text_width, width_of};
 ghost use Rattle.snl_excerpt.specs.Lines.{pen_after, put_at, tail_of};
 
 use bstr::decode_utf8;
@@ -155,8 +157,10 @@ fn put_glyph(
 ) -> Result<usize, AllocError>
     requires some { 0 < length bytes.now }
     requires room { column < 2 ^ 62 }
-    ensures put { OnOk result (out.new.items ≡ out.old.items ++ encode_utf8_all (glyph_of column char bytes.now)) }
-    ensures column { IfOk result (λ after. after ≡ column + text_width (glyph_of column char bytes.now)) }
+    ensures put { OnOk result (out.new.items ≡ out.old.items
+        ++ encode_utf8_all (glyph_of column char bytes.now)) }
+    ensures column { IfOk result (λ after.
+        after ≡ column + text_width (glyph_of column char bytes.now)) }
     ensures few { IfOk result (λ after. after ≤ column + 24) }
 {
     let Some(c) = char else {
@@ -185,7 +189,8 @@ fn tail_of(char: Option<char>, size: usize) -> usize
 pub fn put_at(out: &mut Vec<u8>, pen: Pen, bytes: &[u8]) -> Result<Pen, AllocError>
     requires some { 0 < length bytes.now }
     requires room { pen.column < 2 ^ 62 }
-    ensures put { OnOk result (out.new.items ≡ out.old.items ++ encode_utf8_all (put_at pen bytes.now)) }
+    ensures put { OnOk result (out.new.items ≡ out.old.items
+        ++ encode_utf8_all (put_at pen bytes.now)) }
     ensures pen { IfOk result (λ after. after ≡ pen_after pen bytes.now) }
     ensures few { IfOk result (λ after. after.column ≤ pen.column + 24) }
 {

@@ -1,6 +1,6 @@
 //! What is before a shown line.
-//! In: the number of a line. Out: the number at the right of at least five columns, or blanks in its
-//! place, and a bar.
+//! In: the number of a line. Out: the number at the right of at least five columns, or blanks in
+//! its place, and a bar.
 
 ghost use Rattle.std.specs.Prelude.{◌≡◌, ℕ, ◌-◌, ◌++◌, OnOk};
 ghost use Rattle.snl_excerpt.specs.Gutters.{blank_gutter, gutter};

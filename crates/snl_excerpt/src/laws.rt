@@ -9,7 +9,8 @@ ghost use Rattle.snl_excerpt.specs.Safe.{IsByte, IsNoCommand, IsPrintable, Leads
 /// The column of a place leads back to it: so many bytes before the place less one, the line
 /// begins, and no line ends between.
 pub fn columns_lead_back()
-    ensures { (text : List ℕ) (offset : ℕ) → offset ≤ length text → LeadsBack text offset (column_of text offset) }
+    ensures { (text : List ℕ) (offset : ℕ) → offset ≤ length text
+        → LeadsBack text offset (column_of text offset) }
 {}
 
 /// No character that is shown is a control character, which a terminal could take for a command.

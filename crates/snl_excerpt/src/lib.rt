@@ -1,5 +1,4 @@
-//! Excerpts of a text: the line that has a place, as a terminal shows it, and the line of marks under
-//! it.
+//! Excerpts of a text: the line that has a place, as a terminal shows it, and the marks under it.
 //! In: the bytes of a text, a place in it, and how many bytes are marked. Out: the column of the
 //! place, the shown line and the marks, after bytes that are there.
 //! Knows nothing of tokens, of findings, and of what a text says.

@@ -3,7 +3,8 @@
 //! are there, and the column after them.
 //! Knows nothing of lines and places.
 
-ghost use Rattle.std.specs.Prelude.{◌≡◌, ℕ, ◌+◌, ◌*◌, ◌^◌, ◌<◌, ◌≤◌, ◌++◌, IfOk, OnOk, encode_utf8_all, length};
+ghost use Rattle.std.specs.Prelude.{◌≡◌, ℕ, ◌+◌, ◌*◌, ◌^◌, ◌<◌, ◌≤◌, ◌++◌, IfOk, OnOk};
+ghost use Rattle.std.specs.Prelude.{encode_utf8_all, length};
 ghost use Rattle.snl_excerpt.specs.Glyphs.{text_width};
 ghost use Rattle.snl_excerpt.specs.Lines.{shown, shown_bytes};
 
@@ -20,8 +21,10 @@ pub fn put_front(
 ) -> Result<usize, AllocError>
     requires inside { count ≤ length bytes.now }
     requires room { pen.column + 24 * count < 2 ^ 62 }
-    ensures put { OnOk result (out.new.items ≡ out.old.items ++ encode_utf8_all (shown count pen bytes.now)) }
-    ensures column { IfOk result (λ after. after ≡ pen.column + text_width (shown count pen bytes.now)) }
+    ensures put { OnOk result (out.new.items ≡ out.old.items
+        ++ encode_utf8_all (shown count pen bytes.now)) }
+    ensures column { IfOk result (λ after.
+        after ≡ pen.column + text_width (shown count pen bytes.now)) }
     ensures few { IfOk result (λ after. after ≤ pen.column + 24 * count) }
 {
     let mut pen = pen;

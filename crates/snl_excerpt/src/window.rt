@@ -3,9 +3,11 @@
 //! before the place and after it, and whether the line goes on there.
 //! Looks at no more bytes than are shown, however long the line is.
 
-ghost use Rattle.std.specs.Prelude.{◌≡◌, ℕ, ◌+◌, ◌==◌, ◌<◌, ◌≤◌, Bool, false, not, if◌then◌else◌, length, min, position, take, drop, IfSome};
+ghost use Rattle.std.specs.Prelude.{◌≡◌, ℕ, ◌+◌, ◌==◌, ◌<◌, ◌≤◌, Bool, false, not, if◌then◌else◌};
+ghost use Rattle.std.specs.Prelude.{length, min, position, take, drop, IfSome};
 ghost use Rattle.bstr.specs.Utf8.{continues};
-ghost use Rattle.snl_excerpt.specs.Windows.{after_count, begun_before, front_count, goes_on, inside_of, is_cut, run_up_to};
+ghost use Rattle.snl_excerpt.specs.Windows.{after_count, begun_before, front_count, goes_on};
+ghost use Rattle.snl_excerpt.specs.Windows.{inside_of, is_cut, run_up_to};
 
 /// At most so many bytes are shown before the place.
 const MOST_BEFORE: usize = 80;
