@@ -12,7 +12,8 @@ name_shown name text (Some file) = shown_bytes (slice_of text file.0 file.1)
 
 -- `:LINE:COLUMN: `.
 abbrev pub place_text : (line column : ℕ) → List ℕ
-place_text line column = codes ":" ++ (decimal line ++ (codes ":" ++ (decimal column ++ codes ": ")))
+place_text line column =
+    codes ":" ++ (decimal line ++ (codes ":" ++ (decimal column ++ codes ": ")))
 
 -- ` 'BYTES'`, where bytes are quoted.
 abbrev pub quoted_shown : List ℕ → List ℕ

@@ -3,7 +3,8 @@
 //! the token at the place.
 //! Knows nothing of lines.
 
-ghost use Rattle.std.specs.Prelude.{◌≡◌, ◌==◌, ◌&&◌, ◌||◌, ◌<◌, ◌≤◌, Bool, drop, length, slice_index};
+ghost use Rattle.std.specs.Prelude.{◌≡◌, ◌==◌, ◌&&◌, ◌||◌, ◌<◌, ◌≤◌, Bool, drop, length};
+ghost use Rattle.std.specs.Prelude.{slice_index};
 ghost use Rattle.snl_lex.specs.Pieces.{piece_class};
 ghost use Rattle.snl_report.specs.Extents.{extent, is_open, token_extent};
 

@@ -4,7 +4,8 @@
 //! What comes from the text and its name is shown as a terminal can show it.
 
 ghost use Rattle.std.specs.Prelude.{◌≡◌, ℕ, ◌^◌, ◌<◌, ◌++◌, List, length, take, drop, OnOk};
-ghost use Rattle.snl_report.specs.Heads.{finding_text, head_text, name_shown, place_text, quoted_shown};
+ghost use Rattle.snl_report.specs.Heads.{finding_text, head_text, name_shown, place_text};
+ghost use Rattle.snl_report.specs.Heads.{quoted_shown};
 ghost use Rattle.snl_script.specs.Parts.{slice_of};
 
 use itoa::Buffer;

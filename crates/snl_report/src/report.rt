@@ -1,8 +1,9 @@
 //! The report of a text.
-//! In: a name, and a session over the text. Out: a block for each of the text's diagnostics, and how
-//! many there are, to a watched writer. One block is in memory at a time.
+//! In: a name, and a session over the text. Out: a block for each of the text's diagnostics, and
+//! how many there are, to a watched writer. One block is in memory at a time.
 
-ghost use Rattle.std.specs.Prelude.{◌≡◌, ℕ, ◌^◌, ◌<◌, ◌||◌, [], ◌++◌, List, length, IfOk, OnOk, flat_map, is_err};
+ghost use Rattle.std.specs.Prelude.{◌≡◌, ℕ, ◌^◌, ◌<◌, ◌||◌, [], ◌++◌, List, length, IfOk, OnOk};
+ghost use Rattle.std.specs.Prelude.{flat_map, is_err};
 ghost use Rattle.snl_excerpt.specs.Columns.{IsCursor};
 ghost use Rattle.snl_report.specs.Blocks.{block};
 ghost use Rattle.snl_report.specs.Faults.{is_unwritten};
@@ -79,8 +80,8 @@ fn say_block<W: Write>(
     requires name { length name.now < 2 ^ 32 }
     requires text { length text.now < 2 ^ 32 }
     requires cursor { IsCursor text.now from }
-    ensures said { Said result (W.contents (inner_of out.old)) (W.contents (inner_of out.new)) page.new
-        (page.old ++ block name.now text.now diagnostic.now) }
+    ensures said { Said result (W.contents (inner_of out.old)) (W.contents (inner_of out.new))
+        page.new (page.old ++ block name.now text.now diagnostic.now) }
     ensures cursor { IfOk result (λ here. IsCursor text.now here) }
     ensures failed { failed_of out.new ≡ (failed_of out.old || is_unwritten result) }
 {
@@ -100,8 +101,8 @@ fn say_blocks<W: Write>(
 ) -> Result<(), ReportFault>
     requires name { length name.now < 2 ^ 32 }
     requires text { length text.now < 2 ^ 32 }
-    ensures said { Said result (W.contents (inner_of out.old)) (W.contents (inner_of out.new)) page.new
-        (page.old ++ flat_map (block name.now text.now) diagnostics.now) }
+    ensures said { Said result (W.contents (inner_of out.old)) (W.contents (inner_of out.new))
+        page.new (page.old ++ flat_map (block name.now text.now) diagnostics.now) }
     ensures failed { failed_of out.new ≡ (failed_of out.old || is_unwritten result) }
 {
     let mut from = text_start();
@@ -132,8 +133,8 @@ fn say_sum<W: Write>(
     warnings: usize,
 ) -> Result<(), ReportFault>
     requires { length name.now < 2 ^ 32 }
-    ensures said { Said result (W.contents (inner_of out.old)) (W.contents (inner_of out.new)) page.new
-        (page.old ++ sum_line name.now errors warnings) }
+    ensures said { Said result (W.contents (inner_of out.old)) (W.contents (inner_of out.new))
+        page.new (page.old ++ sum_line name.now errors warnings) }
     ensures failed { failed_of out.new ≡ (failed_of out.old || is_unwritten result) }
 {
     put_name_alone(room, name)?;
@@ -152,8 +153,8 @@ fn say_report<W: Write>(
     session: &Session,
 ) -> Result<(), ReportFault>
     requires { length name.now < 2 ^ 32 }
-    ensures said { Said result (W.contents (inner_of out.old)) (W.contents (inner_of out.new)) page.new
-        (page.old ++ report_of name.now session.now) }
+    ensures said { Said result (W.contents (inner_of out.old)) (W.contents (inner_of out.new))
+        page.new (page.old ++ report_of name.now session.now) }
     ensures failed { failed_of out.new ≡ (failed_of out.old || is_unwritten result) }
 {
     say_blocks(page, out, room, name, session.text(), session.diagnostics())?;

@@ -6,4 +6,5 @@ use Rattle.std.specs.Prelude.{◌≡◌, ℕ, List, ◌++◌, codes, decimal}
 pub record IsLineWithColumn (name : List ℕ) (number column : ℕ) (line head : List ℕ) : Type 0 where
   pub rest : List ℕ
   pub line_is : line ≡ decimal number ++ rest
-  pub head_is : head ≡ name ++ (codes ":" ++ (decimal number ++ (codes ":" ++ (decimal column ++ rest))))
+  pub head_is : head
+      ≡ name ++ (codes ":" ++ (decimal number ++ (codes ":" ++ (decimal column ++ rest))))

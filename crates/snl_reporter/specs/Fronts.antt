@@ -1,5 +1,6 @@
 -- What is at the front of bytes that give texts.
-use Rattle.std.specs.Prelude.{ℕ, ◌+◌, ◌==◌, ◌≤◌, ⊤, List, length, take, Option, Some, None, nat_le, position, if◌then◌else◌}
+use Rattle.std.specs.Prelude.{ℕ, ◌+◌, ◌==◌, ◌≤◌, ⊤, List, length, take, Option, Some, None, nat_le}
+use Rattle.std.specs.Prelude.{position, if◌then◌else◌}
 use Rattle.snl_reporter.specs.declared.front.Front.{Front}
 use Rattle.snl_reporter.specs.declared.front.Front.TheVariants.{Short, Malformed, Whole}
 use Rattle.snl_reporter.specs.declared.heading.Heading.{Heading}
@@ -7,7 +8,8 @@ use Rattle.snl_reporter.specs.Headings.{heading_of}
 
 -- A text that is whole lies within so many bytes, and has no more than it may have.
 abbrev pub IsInside : (len : ℕ) → Front → Type 0
-IsInside len (Whole line name text) = (1 ≤ line) × (line + name + text ≤ len) × (name ≤ 4096) × (text ≤ 1048576)
+IsInside len (Whole line name text) =
+    (1 ≤ line) × (line + name + text ≤ len) × (name ≤ 4096) × (text ≤ 1048576)
 IsInside len Short = ⊤
 IsInside len Malformed = ⊤
 
@@ -15,7 +17,8 @@ IsInside len Malformed = ⊤
 abbrev pub front_after : Option Heading → (line len : ℕ) → Front
 front_after None line len = Malformed
 front_after (Some heading) line len =
-    if nat_le (line + heading.name + heading.text) len then Whole line heading.name heading.text else Short
+    if nat_le (line + heading.name + heading.text) len then Whole line heading.name heading.text
+    else Short
 
 -- By where the first line ends: it has at most 80 bytes without its LF.
 abbrev pub front_at : Option ℕ → List ℕ → Front

@@ -1,5 +1,6 @@
 -- Texts with their names, as they are in the bytes of the input.
-use Rattle.std.specs.Prelude.{◌≡◌, ℕ, ◌+◌, ◌==◌, ◌≤◌, List, [], ◌∷◌, ◌++◌, length, take, drop, Some, flat_map, if◌then◌else◌}
+use Rattle.std.specs.Prelude.{◌≡◌, ℕ, ◌+◌, ◌==◌, ◌≤◌, List, [], ◌∷◌, ◌++◌, length, take, drop, Some}
+use Rattle.std.specs.Prelude.{flat_map, if◌then◌else◌}
 use Rattle.snl_kept.specs.Diagnostics.{errors_of}
 use Rattle.snl_report.specs.Reports.{report_of}
 use Rattle.snl_reporter.specs.declared.faults.Status.{Status}
@@ -27,10 +28,11 @@ pub record IsSpelled (request : Request) (bytes : List ℕ) : Type 0 where
 -- The bytes are these requests, one after another, and then the rest.
 abbrev pub Begins : (bytes : List ℕ) → List Request → (rest : List ℕ) → Type 0
 Begins bytes [] rest = rest ≡ bytes
-Begins bytes (r ∷ rs) rest = (own : List ℕ) × (left : List ℕ) × (bytes ≡ own ++ left) × IsSpelled r own × Begins left rs rest
+Begins bytes (r ∷ rs) rest =
+    (own : List ℕ) × (left : List ℕ) × (bytes ≡ own ++ left) × IsSpelled r own × Begins left rs rest
 
--- The request at the front of some bytes, by how long the heading line with its LF, the name and the
--- text are.
+-- The request at the front of some bytes, by how long the heading line with its LF, the name and
+-- the text are.
 abbrev pub request_in : (bytes : List ℕ) → (line name text : ℕ) → Request
 request_in bytes line name text = record {
   name = take name (drop line bytes);

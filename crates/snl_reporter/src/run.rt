@@ -4,7 +4,8 @@
 //! No one clause says that, but `ran`, `read` and `write` leave no other way, for all readers and
 //! writers. Knows nothing of terminals and of the command line.
 
-ghost use Rattle.std.specs.Prelude.{◌≡◌, ◌≢◌, ◌+◌, ◌≤◌, ◌<◌, ◌^◌, ◌||◌, [], false, length, take, drop, IfErr, IfOk, Ok, Err};
+ghost use Rattle.std.specs.Prelude.{◌≡◌, ◌≢◌, ◌+◌, ◌≤◌, ◌<◌, ◌^◌, ◌||◌, [], false, length, take};
+ghost use Rattle.std.specs.Prelude.{drop, IfErr, IfOk, Ok, Err};
 ghost use Rattle.snl_report.specs.Reports.{report_of};
 ghost use Rattle.snl_script.specs.Said.{Written};
 ghost use Rattle.snl_script.specs.Watched.{calls_of, failed_of, inner_of};
@@ -48,7 +49,8 @@ fn answer<W: Write>(
     text: &[u8],
 ) -> Result<Status, Fault>
     requires { length name.now < 2 ^ 32 }
-    ensures written { Written result (W.contents (inner_of out.old)) (W.contents (inner_of out.new)) (report_of name.now text.now) }
+    ensures written { Written result (W.contents (inner_of out.old)) (W.contents (inner_of out.new))
+        (report_of name.now text.now) }
     ensures status { IfOk result (λ status. status ≡ status_of text.now) }
     ensures fault { IfErr result IsReportFault }
     ensures failed { failed_of out.new ≡ (failed_of out.old || is_write_fault result) }
@@ -69,8 +71,10 @@ fn answer_front<W: Write>(
 ) -> Result<Status, Fault>
     requires inside { line + name + text ≤ length bytes.now }
     requires few { name ≤ 4096 }
-    ensures written { Written result (W.contents (inner_of out.old)) (W.contents (inner_of out.new)) (reply (request_in bytes.now line name text)) }
-    ensures status { IfOk result (λ status. status ≡ status_of (request_in bytes.now line name text).text) }
+    ensures written { Written result (W.contents (inner_of out.old)) (W.contents (inner_of out.new))
+        (reply (request_in bytes.now line name text)) }
+    ensures status { IfOk result (λ status.
+        status ≡ status_of (request_in bytes.now line name text).text) }
     ensures fault { IfErr result IsReportFault }
     ensures failed { failed_of out.new ≡ (failed_of out.old || is_write_fault result) }
 {
