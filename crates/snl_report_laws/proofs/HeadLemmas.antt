@@ -42,8 +42,11 @@ rest_of text d = codes ": " ++ (name_of d.code ++ (codes " " ++ (message_of d.co
 line_parts : (file number name message q : List ℕ) → file ≡ [] → concat (file ∷ concat (number ∷ codes ": " ∷ name ∷ codes " " ∷ message ∷ []) ∷ q ∷ codes "\n" ∷ []) ≡ number ++ (codes ": " ++ (name ++ (codes " " ++ (message ++ (q ++ codes "\n")))))
 line_parts file number name message q h = rw h (simp (append_assoc, append-nil))
 
+five_then : (a b c d e rest : List ℕ) → (a ++ (b ++ (c ++ (d ++ e)))) ++ rest ≡ a ++ (b ++ (c ++ (d ++ (e ++ rest))))
+five_then a b c d e rest = simp append_assoc
+
 head_parts : (shown_name name number column code message q q_shown : List ℕ) → shown_name ≡ name → q_shown ≡ q → shown_name ++ ((codes ":" ++ (number ++ (codes ":" ++ (column ++ codes ": ")))) ++ (code ++ (codes " " ++ (message ++ (q_shown ++ codes "\n"))))) ≡ name ++ (codes ":" ++ (number ++ (codes ":" ++ (column ++ (codes ": " ++ (code ++ (codes " " ++ (message ++ (q ++ codes "\n")))))))))
-head_parts shown_name name number column code message q q_shown n s = rw (n, s) (simp append_assoc)
+head_parts shown_name name number column code message q q_shown n s = rw (n, s) (ap (λ (l : List ℕ). name ++ l) (five_then (codes ":") number (codes ":") column (codes ": ") (code ++ (codes " " ++ (message ++ (q ++ codes "\n"))))))
 
 no_file : (text : List ℕ) (file : Option (ℕ × ℕ)) → file ≡ None → file_text text file ≡ []
 no_file text file h = ap (file_text text) h
