@@ -62,8 +62,8 @@ def words_near(text, offset):
 
 
 def references_of(text, offset):
-    """The references of the name near an offset: where each begins and stops, and whether the name is
-    declared there. There are none where the name means nothing."""
+    """The references of the name near an offset: where each begins and stops, and whether the name
+    is declared there. There are none where the name means nothing."""
     meant = mentions_of(text)
     spans = {start: WORD.match(text, start).span() for start in meant}
     for at in (offset, offset - 1):
@@ -219,8 +219,8 @@ def names_listed(rows):
 
 class Method(NamedTuple):
     """A request on a document: as what the answer to `initialize` offers it, whether it asks of a
-    place, what is wrong with the answer, by its result, what was asked and the encoding, and whether
-    it tells if a declaration is asked for too."""
+    place, what is wrong with the answer, by its result, what was asked and the encoding, and
+    whether it tells if a declaration is asked for too."""
 
     provider: str
     is_of_place: bool

@@ -39,7 +39,8 @@
       (dolist (it (cdr entry)) (tell-index it (concat tag (car entry) " ")))
     (tell "%s%s:%d" tag (car entry) (line-number-at-pos (cdr entry)))))
 
-;; Tells the symbols, where the name at point is declared, where it is named, and what is told of it.
+;; Tells the symbols, where the name at point is declared, where it is named, and what is told of
+;; it.
 (defun tell-asked ()
   (dolist (entry (funcall imenu-create-index-function)) (tell-index entry ""))
   (dolist (it (xref-backend-definitions 'eglot (xref-backend-identifier-at-point 'eglot)))

@@ -191,7 +191,7 @@ ASKED = ("definition", "references", "documentHighlight")
 
 
 def told_of_names(server, text, names):
-    """For each name what is answered to each question on it; what is wrong with the run, if it is."""
+    """For each name what is answered to each question on it; what is wrong with the run, if so."""
     talk = [initialize(["utf-8"]), note("initialized"), did_open(URI, text.decode())]
     for number, offset in enumerate(names):
         for at, method in enumerate(ASKED, 3 * number + 10):

@@ -98,8 +98,8 @@ HOVERS = (
     (0, 9, None, None),
 )
 
-# Where a cursor is, where the name there is declared, and where it is named besides, in the order of
-# the text; none where it means nothing.
+# Where a cursor is, where the name there is declared, and where it is named besides, in the order
+# of the text; none where it means nothing.
 REFERENCES = (
     ("a variable", 7, 27, LEVEL,
      [in_line(1, 18, 23), in_line(1, 48, 53), in_line(2, 19, 24), in_line(7, 27, 32)]),

@@ -1,5 +1,5 @@
--- References by their tokens: where two names have one in common, they mean the same; and each of them
--- leads to all.
+-- References by their tokens: where two names have one in common, they mean the same; and each of
+-- them leads to all.
 use Rattle.std.proofs.Common.{◌≡◌, ℕ, ◌+◌, ◌<◌, ◌≤◌, ◌&&◌, nat_le, nat_lt, true, List, [], Contains, slice_get, Option, None, Some, option_map, refl, ap, sym, subst, ◌∙◌, arith, le-leb, lt-ltb}
 use Rattle.std.proofs.lemmas.List.Elements.{All-contains, All-from_recursion}
 use Rattle.std.proofs.lemmas.Option.{same_Some}

@@ -104,7 +104,8 @@ module _ (text : List ℕ) (laws : TokenLaws text)
 
   whole_references : (q : TokenPlace) → Each BeginsThere (references_of text q)
   whole_references q =
-      each_reference text q (λ (m : Mention). ⊤) BeginsThere (λ m s none is at. whole_span m.at s at)
+      each_reference text q (λ (m : Mention). ⊤) BeginsThere
+      (λ m s none is at. whole_span m.at s at)
       (each_nothing (mentions_in text))
 
   pub reference_leads_back : (offset : ℕ) (r : Reference) →

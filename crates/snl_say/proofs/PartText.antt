@@ -43,7 +43,8 @@ location_same : (uri : List ℕ) (part : Place × Place) →
     compact_text (part_location uri part) ≡ part_text (location_end (quoted uri)) part
 unfolding json_on_literals part_text
 location_same uri part =
-    ap (λ (l : List ℕ). codes "{\"range\":" ++ (l ++ (codes ",\"uri\":" ++ (quoted uri ++ codes "}"))))
+    ap (λ (l : List ℕ). codes "{\"range\":"
+    ++ (l ++ (codes ",\"uri\":" ++ (quoted uri ++ codes "}"))))
     (range_same part.0 part.1)
 
 only_range_same : (part : Place × Place) →

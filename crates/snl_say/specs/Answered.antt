@@ -9,8 +9,8 @@ use Rattle.snl_say.specs.Symbols.{SymbolFound, symbol_of, symbols_data, symbols_
 use Rattle.snl_say.specs.declared.answer.Answer.{Answer}
 use Rattle.snl_say.specs.declared.answer.Answer.TheVariants as answer
 
--- By its shape: nothing, a part of the document, what is told of a part, symbols, parts as locations,
--- parts by their ranges alone.
+-- By its shape: nothing, a part of the document, what is told of a part, symbols, parts as
+-- locations, parts by their ranges alone.
 pub data Answered : Type 0 where
   Nothing : Answered
   Location : (start stop : Place) → Answered

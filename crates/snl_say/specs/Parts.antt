@@ -1,5 +1,5 @@
--- Parts of a document in an array, as locations or as their ranges alone: the answers as JSON and as
--- bytes.
+-- Parts of a document in an array, as locations or as their ranges alone: the answers as JSON and
+-- as bytes.
 use Rattle.std.specs.Prelude.{ℕ, List, [], ◌∷◌, ◌++◌, codes}
 use Rattle.std.specs.List.{concat, flat_map}
 use Rattle.serde_json.specs.Data.{Data, array, object, member, no_members, Items, no_items, item}

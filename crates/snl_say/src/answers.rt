@@ -136,8 +136,8 @@ fn server_text() -> &'static [u8]
 }
 
 /// The answer to `initialize`: documents are opened, changed by ranges and closed, the characters
-/// of a line are counted so, and symbols, definitions, hovers, references and highlights may be asked
-/// for. An `Err`, of memory, may leave a front of the bytes.
+/// of a line are counted so, and symbols, definitions, hovers, references and highlights may be
+/// asked for. An `Err`, of memory, may leave a front of the bytes.
 #[tactic(auto, unfolding(crate::specs::Answers::initialize_text))]
 pub fn put_initialize(out: &mut Vec<u8>, id: Id<'_>, encoding: Encoding) -> Result<(), AllocError>
     ensures { OnOk result (out.new.items ≡ out.old.items

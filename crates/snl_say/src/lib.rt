@@ -8,8 +8,8 @@
 //! `diagnostics` publishes what is found in a document, of which `written` keeps what was written
 //! last, `notices` shows a message to the user,
 //! `answers` has the answers to requests but for those on documents: these are in `answer`, by their
-//! shapes, which are in `symbols`, `location`, `hover` and `parts`. `frames` puts the header before a
-//! body.
+//! shapes, which are in `symbols`, `location`, `hover` and `parts`. `frames` puts the header before
+//! a body.
 #![tactic(auto)]
 
 mod answer;

@@ -13,8 +13,8 @@ pub const INITIALIZED_IN_UTF_16: &str =
     "{\"id\":1,\"jsonrpc\":\"2.0\",\"result\":{\"capabilities\":{\"definitionProvider\":true,\"documentHighlightProvider\":true,\"documentSymbolProvider\":true,\"hoverProvider\":true,\"positionEncoding\":\"utf-16\",\"referencesProvider\":true,\"textDocumentSync\":{\"change\":2,\"openClose\":true}},\"serverInfo\":{\"name\":\"snl_lsp\"}}}\n";
 
 // A message and the bodies that are answered to it, a line each. A document is opened, and its
-// symbols are asked for. Then, right after `x` in the condition: where that is declared, what it is,
-// and where it is named. White space means nothing, and nor does the program's name. The last
+// symbols are asked for. Then, right after `x` in the condition: where that is declared, what it
+// is, and where it is named. White space means nothing, and nor does the program's name. The last
 // document isn't open.
 static QUESTIONS: [(&[u8], &str); 12] = [
     (
