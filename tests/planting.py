@@ -74,9 +74,25 @@ def module_of(file):
 
 
 def homes_of(texts):
-    """The module of each type of a crate: the methods of a type are told as there."""
+    """The modules of each type of a crate, which are as many as there are types of that name."""
     types = r"(?m)^(?:pub(?:\([^)]*\))? )?(?:struct|enum) (\w+)"
-    return {it: module_of(file) for file, text in texts.items() for it in re.findall(types, text)}
+    homes = {}
+    for file, text in texts.items():
+        for it in re.findall(types, text):
+            homes.setdefault(it, []).append(module_of(file))
+    return homes
+
+
+def home_of(owner, homes, here, text):
+    """Where the methods of a type are told: the module of the type that a file means."""
+    modules = homes.get(owner, [here])
+    if here in modules:
+        return here
+    for it in modules:
+        last = "::".join(it).rpartition("::")[2]
+        if re.search(rf"\b{last}::(?:\{{[^}}]*)?\b{owner}\b", text):
+            return it
+    return modules[0]
 
 
 def functions_of(file, text, homes):
@@ -87,7 +103,7 @@ def functions_of(file, text, homes):
         head = re.match(r"(?:unsafe )?(?:pub(?:\([^)]*\))? )?(impl|trait)\b(.*)", line)
         if head:
             owner = [owner_of(head[1], whole_head(lines, number))]
-            outer = homes.get(owner[0], here)
+            outer = home_of(owner[0], homes, here, text)
         elif line == "}":
             owner, outer = [], here
         named = re.search(r"#\[cycle\((\w+)\)\]", line)
