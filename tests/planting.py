@@ -130,7 +130,8 @@ def whole_head(lines, number):
 
 
 def owner_of(kind, head):
-    """What stands for an impl or a trait in a path: TYPE, for a trait's impl TYPETRAIT."""
+    """What stands for an impl or a trait in a path: TYPE, for a trait's impl TYPETRAIT, and for one
+    of From with what it is made of, TYPEFromOTHER."""
     plain = head
     while re.search(r"<[^<>]*>", plain):
         plain = re.sub(r"<[^<>]*>", "", plain.replace("->", ""))
@@ -138,6 +139,9 @@ def owner_of(kind, head):
     if not words:
         return "?"
     trait, name = (words[1] or "").rpartition("::")[2], words[2].rpartition("::")[2]
+    made_of = re.search(r"\bFrom<([\w:]+)", head)
+    if trait == "From" and made_of:
+        trait += made_of[1].rpartition("::")[2]
     return name if trait in ("", "Drop") else name + trait
 
 
